@@ -1,0 +1,79 @@
+-- The place of a simplex without one vertex is well-formed (`place-ok`).
+use Prim.Native.Nat.{ℕ, suc, zero, _+_, _^_, _≤_, _<_}
+use mathlib.Core.Path.{_≡_, refl, ap, _∙_}
+use mathlib.Core.Bool.{Bool, true, false, cond}
+use mathlib.Core.List.{List, [], _∷_}
+use native.Mathlib.Nat.{not-suc-le-zero}
+use native.Mathlib.Omega.{arith}
+use lib.ListN.{length}
+use lib.Dec.{ltb}
+use lib.Pow.{pow-pos}
+use borrow.Author.Tests.{eq-eqb, lt-ltb}
+use Rattle.exact.specs.Crossed.{remove}
+use Rattle.curves.specs.Grid.{Vertex, up, down, chain, masksFrom, sideOf, placeAt, isOrder, facetOk, placeOk}
+use Rattle.curves.proofs.MaskBits.{both}
+use Rattle.curves.proofs.MaskOrder.{Fresh, next, order-fresh, order-length, fresh-zero}
+use Rattle.curves.proofs.MaskChain.{fresh-chain, chain-remove}
+use Rattle.curves.proofs.IncidencePlace.{place}
+
+-- ---- lengths
+
+pub length-up : (a : ℕ) (v : Vertex) → length (up a v) ≡ length v
+unfolding up
+length-up a [] = refl
+length-up zero (x ∷ v) = refl
+length-up (suc a) (x ∷ v) = ap suc (length-up a v)
+
+pub length-down : (a : ℕ) (v : Vertex) → length (down a v) ≡ length v
+unfolding down
+length-down a [] = refl
+length-down zero (x ∷ v) = refl
+length-down (suc a) (x ∷ v) = ap suc (length-down a v)
+
+pub length-masks : (m : ℕ) (o : List ℕ) → length (masksFrom m o) ≡ length o
+unfolding masksFrom
+length-masks m [] = refl
+length-masks m (a ∷ o) = ap suc (length-masks (m + 2 ^ a) o)
+
+pub length-remove : (i : ℕ) (l : List ℕ) → i < length l → suc (length (remove i l)) ≡ length l
+unfolding remove
+length-remove i [] u = absurd (not-suc-le-zero u)
+length-remove zero (x ∷ l) u = refl
+length-remove (suc i) (x ∷ l) u = ap suc (length-remove i l (omega arith))
+
+-- ---- sides
+
+pub side-of-under : (i : ℕ) (o : List ℕ) → sideOf i o < 2
+unfolding sideOf
+side-of-under i [] = omega arith
+side-of-under zero (a ∷ []) = omega arith
+side-of-under zero (a ∷ b ∷ o) = go (ltb a b)
+  where
+    go : (t : Bool) → cond t 0 1 < 2
+    go true = omega arith
+    go false = omega arith
+side-of-under (suc i) (a ∷ o) = side-of-under i o
+
+-- ---- the place
+
+pub place-form : (n : ℕ) (c : Vertex) (ms : List ℕ) (s : ℕ) → length c ≡ n → suc (length ms) ≡ n → chain n 0 ms ≡ true → s < 2
+    → placeOk n (place c ms s) ≡ true
+unfolding placeOk facetOk
+place-form n c ms s p q h l = both (both (eq-eqb (length c) n p) (both (eq-eqb (suc (length ms)) n q) h)) (lt-ltb s 2 l)
+
+pub place-ok : (n : ℕ) (c : Vertex) (o : List ℕ) (i : ℕ) → 0 < n → isOrder n o ≡ true → length c ≡ n → i ≤ n
+    → placeOk n (placeAt c o i) ≡ true
+unfolding placeAt
+place-ok n c [] i p h e l = absurd (omega (arith, order-length n [] h))
+place-ok n c (a ∷ o) zero p h e l = go (order-fresh n (a ∷ o) h)
+  where
+    go : Fresh n 0 (a ∷ o) → placeOk n (placeAt c (a ∷ o) zero) ≡ true
+    go (next k z r) =
+        place-form n (up a c) (masksFrom 0 o) 1 (length-up a c ∙ e) (ap suc (length-masks 0 o) ∙ order-length n (a ∷ o) h)
+        (fresh-chain (pow-pos n) (fresh-zero r)) (omega arith)
+place-ok n c (a ∷ o) (suc i) p h e l =
+    let size : length (masksFrom 0 (a ∷ o)) ≡ n = length-masks 0 (a ∷ o) ∙ order-length n (a ∷ o) h in
+    place-form n c (remove i (masksFrom 0 (a ∷ o))) (sideOf i (a ∷ o)) e
+    (length-remove i (masksFrom 0 (a ∷ o)) (omega arith) ∙ size)
+    (chain-remove n i 0 (masksFrom 0 (a ∷ o)) (pow-pos n) (fresh-chain (pow-pos n) (order-fresh n (a ∷ o) h)))
+    (side-of-under i (a ∷ o))

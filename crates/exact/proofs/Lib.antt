@@ -1,0 +1,27 @@
+-- The laws of the definitions in specs/, a file for each idea: integers, determinants, signs, and the theorem on simplices.
+pub mod Ring
+pub mod Solver
+pub mod Linear
+pub mod SizeLaws
+pub mod SignLaws
+pub mod Identities
+pub mod Alternate
+pub mod DetRows
+pub mod DetColumns
+pub mod ThreeTerms
+pub mod Sums
+pub mod Position
+pub mod Tagged
+pub mod Rows
+pub mod Coefficient
+pub mod Minors
+pub mod ClosedForms
+pub mod DetSize
+pub mod LexSign
+pub mod Door
+pub mod Exit
+pub mod CrossedTest
+pub mod FacetSigns
+pub mod Simplex
+pub mod Crossed2
+pub mod Examples

@@ -1,0 +1,7 @@
+-- The size of a whole number: a bound on its absolute value. A record, so that both numbers can be read off a proof of it.
+use Prim.Native.Nat.{ℕ, _≤_}
+use lib.IntN.{ℤ, natAbs}
+
+-- −m ≤ z ≤ m
+pub record Size (m : ℕ) (z : ℤ) : Type 0 where
+  pub size : natAbs z ≤ m

@@ -1,0 +1,1 @@
+// Exact arithmetic over the whole numbers: definitions in specs/, laws in proofs/. There is no code here.

@@ -1,0 +1,1 @@
+-- Theorems about the definitions of document 01, a file for each idea.

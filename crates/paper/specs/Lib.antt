@@ -1,0 +1,9 @@
+-- Document 01, section by section. A reader who trusts the checker needs to believe these definitions, and those of the
+-- crates exact and curves that they cite, and nothing else.
+pub mod Bytes
+pub mod Limits
+pub mod Job
+pub mod Values
+pub mod Operations
+pub mod Answers
+pub mod Pen

@@ -1,0 +1,32 @@
+-- The limits of document 01, each named once. A proof that does not depend on a limit's size never opens its name.
+use Prim.Native.Nat.{ℕ}
+use mathlib.Core.Bool.{Bool, cond, _||_}
+use lib.Dec.{eqb}
+
+-- the dimensions: 2 and 3
+unfoldable pub dimensionOk : ℕ → Bool
+dimensionOk n = eqb n 2 || eqb n 3
+
+-- box ends lie from − 256 to 256
+unfoldable pub coordinateLimit : ℕ
+coordinateLimit = 256
+
+-- terms of a polynomial: 1 to 15 for n = 2, 1 to 35 for n = 3
+unfoldable pub termLimit : ℕ → ℕ
+termLimit n = cond (eqb n 2) 15 35
+
+-- the size of a coefficient
+unfoldable pub coefficientLimit : ℕ
+coefficientLimit = 1048576
+
+-- the sum of a term's exponents
+unfoldable pub degreeLimit : ℕ
+degreeLimit = 4
+
+-- a value is readable from − 2 ^ 28 to 2 ^ 28
+unfoldable pub readableLimit : ℕ → ℕ
+readableLimit n = 268435456
+
+-- the steps of a unit
+unfoldable pub stepsPerUnit : ℕ
+stepsPerUnit = 1024

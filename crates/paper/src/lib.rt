@@ -1,0 +1,80 @@
+// The public answers of the operations, as document 01 words them. What each case means, its number and its values, is
+// said in specs/Answers.antt; what an operation answers is defined in specs/Operations.antt.
+
+// Open: the refusal's number, or the dimension and each polynomial's count of terms (the second is 0 in dimension 2).
+pub enum Opened {
+    Refused(u64),
+    Job { n: u64, terms1: u64, terms2: u64 },
+}
+
+// Judge.
+pub enum Judged {
+    Refused(u64),
+    Crossed,
+    NotCrossed,
+}
+
+// A point in steps of 1/1024, axis by axis; z is 0 in dimension 2.
+pub struct StepPoint {
+    pub x: i64,
+    pub y: i64,
+    pub z: i64,
+}
+
+// Point.
+pub enum Pointed {
+    Refused(u64),
+    At(StepPoint),
+}
+
+// A place: the lowest vertex, the masks and the side. In dimension 2 z and mask2 are 0.
+pub struct Placed {
+    pub x: i64,
+    pub y: i64,
+    pub z: i64,
+    pub mask1: u64,
+    pub mask2: u64,
+    pub side: u64,
+}
+
+// Step.
+pub enum Stepped {
+    Refused(u64),
+    Edge,
+    Limit,
+    Next(Placed),
+}
+
+// The verdicts of Trace.
+pub enum Verdict {
+    Loop,
+    Edge,
+    Limit,
+    Full,
+}
+
+// Trace: the refusal's number, or the verdict and the count of places written.
+pub enum Traced {
+    Refused(u64),
+    Listed(Verdict, u64),
+}
+
+// A point in millimetres, axis by axis; z is 0 in dimension 2.
+pub struct Millimetres {
+    pub x: f64,
+    pub y: f64,
+    pub z: f64,
+}
+
+// The moves of the pen.
+pub enum PenMove {
+    Lift(Millimetres),
+    Draw(Millimetres),
+    Close,
+}
+
+// Pen.
+pub enum Penned {
+    Refused(u64),
+    Move(PenMove),
+}
