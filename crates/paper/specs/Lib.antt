@@ -7,3 +7,4 @@ pub mod Values
 pub mod Operations
 pub mod Answers
 pub mod Pen
+pub mod Listing

@@ -1,0 +1,181 @@
+-- The marked cases A to J of document 01, as rows of a table under one theorem: each row holds by computation from the
+-- definitions.
+use Prim.Native.Nat.{ℕ, suc}
+use mathlib.Core.Path.{_≡_, refl}
+use mathlib.Core.Bool.{Bool, true, false}
+use mathlib.Core.List.{List, [], _∷_, map}
+use lib.IntN.{ℤ, pos, negsuc}
+use lib.ListN.{length, take}
+use lib.Count as Count
+use Rattle.exact.specs.Int as Int
+use Rattle.exact.specs.Det as Det
+use Rattle.exact.specs.Sign as Sign
+use Rattle.exact.specs.Crossed as Crossed
+use Rattle.exact.specs.Crossed.{countFrom}
+use Rattle.curves.specs.Grid as Grid
+use Rattle.curves.specs.Grid.{Vertex, Place}
+use Rattle.curves.specs.Step as Step
+use Rattle.curves.specs.Step.{Stop, edge, limit}
+use Rattle.curves.specs.Walk as Walk
+use Rattle.curves.specs.Walk.{Verdict, loop, stopped, full}
+use Rattle.paper.specs.Bytes as Bytes
+use Rattle.paper.specs.Limits as Limits
+use Rattle.paper.specs.Job as Job
+use Rattle.paper.specs.Job.{openRefusal, entryOffset, dimension, withStart}
+use Rattle.paper.specs.Values as Values
+use Rattle.paper.specs.Operations as Operations
+use Rattle.paper.specs.Operations.{Answer, refused, answered, judged, pointed, traced}
+
+-- ---- the jobs
+
+-- A: box − 1 to 1 on both axes; 2·x² + 2·y² − 1; start 0 0, mask 1, side 0
+unfoldable pub caseA : List ℕ
+caseA =
+    1 ∷ 2 ∷ 3 ∷ 0 ∷ 16 ∷ 0 ∷ 8 ∷ 0 ∷ 24 ∷ 0 ∷ 24 ∷ 0
+    ∷ 48 ∷ 0 ∷ 6 ∷ 0 ∷ 255 ∷ 255 ∷ 1 ∷ 0 ∷ 255 ∷ 255 ∷ 1 ∷ 0
+    ∷ 255 ∷ 255 ∷ 255 ∷ 255 ∷ 0 ∷ 0 ∷ 0 ∷ 0 ∷ 2 ∷ 0 ∷ 0 ∷ 0
+    ∷ 0 ∷ 2 ∷ 0 ∷ 0 ∷ 2 ∷ 0 ∷ 0 ∷ 0 ∷ 2 ∷ 0 ∷ 0 ∷ 0
+    ∷ 0 ∷ 0 ∷ 0 ∷ 0 ∷ 1 ∷ 0 ∷ []
+
+-- C: n = 3; polynomials x and y; box 0 to 1; start 0 0 0, masks 1 3, side 0
+unfoldable pub caseC : List ℕ
+caseC =
+    1 ∷ 3 ∷ 4 ∷ 0 ∷ 20 ∷ 0 ∷ 12 ∷ 0 ∷ 32 ∷ 0 ∷ 8 ∷ 0
+    ∷ 40 ∷ 0 ∷ 8 ∷ 0 ∷ 48 ∷ 0 ∷ 9 ∷ 0 ∷ 0 ∷ 0 ∷ 1 ∷ 0
+    ∷ 0 ∷ 0 ∷ 1 ∷ 0 ∷ 0 ∷ 0 ∷ 1 ∷ 0 ∷ 1 ∷ 0 ∷ 0 ∷ 0
+    ∷ 1 ∷ 0 ∷ 0 ∷ 0 ∷ 1 ∷ 0 ∷ 0 ∷ 0 ∷ 0 ∷ 1 ∷ 0 ∷ 0
+    ∷ 0 ∷ 0 ∷ 0 ∷ 0 ∷ 0 ∷ 0 ∷ 1 ∷ 3 ∷ 0 ∷ []
+
+-- F: one polynomial, x
+unfoldable pub caseF : List ℕ
+caseF =
+    1 ∷ 2 ∷ 3 ∷ 0 ∷ 16 ∷ 0 ∷ 8 ∷ 0 ∷ 24 ∷ 0 ∷ 8 ∷ 0
+    ∷ 32 ∷ 0 ∷ 6 ∷ 0 ∷ 0 ∷ 0 ∷ 1 ∷ 0 ∷ 0 ∷ 0 ∷ 1 ∷ 0
+    ∷ 1 ∷ 0 ∷ 0 ∷ 0 ∷ 1 ∷ 0 ∷ 0 ∷ 0 ∷ 0 ∷ 0 ∷ 0 ∷ 0
+    ∷ 1 ∷ 0 ∷ []
+
+-- G: one polynomial, − x
+unfoldable pub caseG : List ℕ
+caseG =
+    1 ∷ 2 ∷ 3 ∷ 0 ∷ 16 ∷ 0 ∷ 8 ∷ 0 ∷ 24 ∷ 0 ∷ 8 ∷ 0
+    ∷ 32 ∷ 0 ∷ 6 ∷ 0 ∷ 0 ∷ 0 ∷ 1 ∷ 0 ∷ 0 ∷ 0 ∷ 1 ∷ 0
+    ∷ 255 ∷ 255 ∷ 255 ∷ 255 ∷ 1 ∷ 0 ∷ 0 ∷ 0 ∷ 0 ∷ 0 ∷ 0 ∷ 0
+    ∷ 1 ∷ 0 ∷ []
+
+-- H: one polynomial, y
+unfoldable pub caseH : List ℕ
+caseH =
+    1 ∷ 2 ∷ 3 ∷ 0 ∷ 16 ∷ 0 ∷ 8 ∷ 0 ∷ 24 ∷ 0 ∷ 8 ∷ 0
+    ∷ 32 ∷ 0 ∷ 6 ∷ 0 ∷ 0 ∷ 0 ∷ 1 ∷ 0 ∷ 0 ∷ 0 ∷ 1 ∷ 0
+    ∷ 1 ∷ 0 ∷ 0 ∷ 0 ∷ 0 ∷ 1 ∷ 0 ∷ 0 ∷ 0 ∷ 0 ∷ 0 ∷ 0
+    ∷ 1 ∷ 0 ∷ []
+
+-- I: one polynomial, 1,048,576·x²; box 16 to 17 on axis 1
+unfoldable pub caseI : List ℕ
+caseI =
+    1 ∷ 2 ∷ 3 ∷ 0 ∷ 16 ∷ 0 ∷ 8 ∷ 0 ∷ 24 ∷ 0 ∷ 8 ∷ 0
+    ∷ 32 ∷ 0 ∷ 6 ∷ 0 ∷ 16 ∷ 0 ∷ 17 ∷ 0 ∷ 0 ∷ 0 ∷ 1 ∷ 0
+    ∷ 0 ∷ 0 ∷ 16 ∷ 0 ∷ 2 ∷ 0 ∷ 0 ∷ 0 ∷ 16 ∷ 0 ∷ 0 ∷ 0
+    ∷ 2 ∷ 0 ∷ []
+
+-- J: box 1 to 1 on axis 1
+unfoldable pub caseJ : List ℕ
+caseJ =
+    1 ∷ 2 ∷ 3 ∷ 0 ∷ 16 ∷ 0 ∷ 8 ∷ 0 ∷ 24 ∷ 0 ∷ 8 ∷ 0
+    ∷ 32 ∷ 0 ∷ 6 ∷ 0 ∷ 1 ∷ 0 ∷ 1 ∷ 0 ∷ 0 ∷ 0 ∷ 1 ∷ 0
+    ∷ 1 ∷ 0 ∷ 0 ∷ 0 ∷ 1 ∷ 0 ∷ 0 ∷ 0 ∷ 0 ∷ 0 ∷ 0 ∷ 0
+    ∷ 1 ∷ 0 ∷ []
+
+-- ---- the rows
+
+pub data Row : Type 0 where
+  -- the job has so many bytes, opens, and its bodies begin at these offsets
+  bodies : List ℕ → ℕ → List ℕ → Row
+  -- Open's refusal
+  refuses : List ℕ → ℕ → Row
+  -- Judge's answer for a place in bytes
+  judges : List ℕ → List ℕ → Answer Bool → Row
+  -- Point's answer for a place in bytes
+  points : List ℕ → List ℕ → List ℤ → Row
+  -- Trace's verdict and places, with space for so many
+  traces : List ℕ → ℕ → Verdict Stop → List Place → Row
+
+-- what a row says
+abbrev pub Holds : Row → Type 0
+Holds (bodies s l os) =
+    (length s ≡ l) × (openRefusal s ≡ 0) × (map (entryOffset s) (countFrom 0 (suc (dimension s))) ≡ os)
+Holds (refuses s k) = openRefusal s ≡ k
+Holds (judges s p a) = judged s p ≡ a
+Holds (points s p v) = pointed s p ≡ answered v
+Holds (traces s k v ps) = traced s k ≡ answered record { verdict = v; places = ps }
+
+abbrev pub AllHold : List Row → Type 0
+AllHold [] = Unit {0}
+AllHold (r ∷ rs) = Holds r × AllHold rs
+
+abbrev place : Vertex → List ℕ → ℕ → Place
+place v ms s = record { facet = record { low = v; masks = ms }; side = s }
+
+-- the places of A and of C, in the order in which Trace lists them
+unfoldable pub placesA : List Place
+placesA =
+    place (pos 0 ∷ pos 0 ∷ []) (1 ∷ []) 0
+    ∷ place (pos 0 ∷ pos 0 ∷ []) (3 ∷ []) 1
+    ∷ place (pos 0 ∷ pos 0 ∷ []) (2 ∷ []) 1
+    ∷ place (negsuc 0 ∷ pos 0 ∷ []) (1 ∷ []) 1
+    ∷ place (negsuc 0 ∷ negsuc 0 ∷ []) (3 ∷ []) 0
+    ∷ place (pos 0 ∷ negsuc 0 ∷ []) (2 ∷ []) 0
+    ∷ []
+
+unfoldable pub placesC : List Place
+placesC =
+    place (pos 0 ∷ pos 0 ∷ pos 0 ∷ []) (1 ∷ 3 ∷ []) 0
+    ∷ place (pos 0 ∷ pos 0 ∷ pos 0 ∷ []) (1 ∷ 7 ∷ []) 1
+    ∷ place (pos 0 ∷ pos 0 ∷ pos 0 ∷ []) (5 ∷ 7 ∷ []) 1
+    ∷ place (pos 0 ∷ pos 0 ∷ pos 1 ∷ []) (1 ∷ 3 ∷ []) 0
+    ∷ []
+
+unfoldable pub markedCases : List Row
+markedCases =
+    -- A: the job has 54 bytes and opens; bodies at 16, 24 and 48
+    bodies caseA 54 (16 ∷ 24 ∷ 48 ∷ [])
+    -- A: the six facets
+    ∷ traces caseA 4096 loop placesA
+    -- A: the point on each
+    ∷ points caseA (0 ∷ 0 ∷ 0 ∷ 0 ∷ 1 ∷ 0 ∷ []) (pos 512 ∷ pos 0 ∷ [])
+    ∷ points caseA (0 ∷ 0 ∷ 0 ∷ 0 ∷ 3 ∷ 1 ∷ []) (pos 256 ∷ pos 256 ∷ [])
+    ∷ points caseA (0 ∷ 0 ∷ 0 ∷ 0 ∷ 2 ∷ 1 ∷ []) (pos 0 ∷ pos 512 ∷ [])
+    ∷ points caseA (255 ∷ 255 ∷ 0 ∷ 0 ∷ 1 ∷ 1 ∷ []) (negsuc 511 ∷ pos 0 ∷ [])
+    ∷ points caseA (255 ∷ 255 ∷ 255 ∷ 255 ∷ 3 ∷ 0 ∷ []) (negsuc 255 ∷ negsuc 255 ∷ [])
+    ∷ points caseA (0 ∷ 0 ∷ 255 ∷ 255 ∷ 2 ∷ 0 ∷ []) (pos 0 ∷ negsuc 511 ∷ [])
+    -- B: A with space for 6 is loop, for 5 is full with 5, for 0 is full with 0
+    ∷ traces caseA 6 loop placesA
+    ∷ traces caseA 5 full (take 5 placesA)
+    ∷ traces caseA 0 full []
+    -- C: n = 3, polynomials x and y
+    ∷ traces caseC 4096 (stopped edge) placesC
+    -- C: the first three points, and the last
+    ∷ points caseC (0 ∷ 0 ∷ 0 ∷ 0 ∷ 0 ∷ 0 ∷ 1 ∷ 3 ∷ 0 ∷ []) (pos 0 ∷ pos 0 ∷ pos 0 ∷ [])
+    ∷ points caseC (0 ∷ 0 ∷ 0 ∷ 0 ∷ 0 ∷ 0 ∷ 1 ∷ 7 ∷ 1 ∷ []) (pos 0 ∷ pos 0 ∷ pos 0 ∷ [])
+    ∷ points caseC (0 ∷ 0 ∷ 0 ∷ 0 ∷ 0 ∷ 0 ∷ 5 ∷ 7 ∷ 1 ∷ []) (pos 0 ∷ pos 0 ∷ pos 0 ∷ [])
+    ∷ points caseC (0 ∷ 0 ∷ 0 ∷ 0 ∷ 1 ∷ 0 ∷ 1 ∷ 3 ∷ 0 ∷ []) (pos 0 ∷ pos 0 ∷ pos 1024 ∷ [])
+    -- D: C's start with side 1 is edge, 1
+    ∷ traces (withStart caseC (place (pos 0 ∷ pos 0 ∷ pos 0 ∷ []) (1 ∷ 3 ∷ []) 1)) 4096 (stopped edge) (place (pos 0 ∷ pos 0 ∷ pos 0 ∷ []) (1 ∷ 3 ∷ []) 1 ∷ [])
+    -- E: C's facet with masks 2 3 is not crossed
+    ∷ judges caseC (0 ∷ 0 ∷ 0 ∷ 0 ∷ 0 ∷ 0 ∷ 2 ∷ 3 ∷ 0 ∷ []) (answered false)
+    -- F: values 0 and 1 cross; G: 0 and − 1 do not; H: 0 and 0 do not
+    ∷ judges caseF (0 ∷ 0 ∷ 0 ∷ 0 ∷ 1 ∷ 0 ∷ []) (answered true)
+    ∷ judges caseG (0 ∷ 0 ∷ 0 ∷ 0 ∷ 1 ∷ 0 ∷ []) (answered false)
+    ∷ judges caseH (0 ∷ 0 ∷ 0 ∷ 0 ∷ 1 ∷ 0 ∷ []) (answered false)
+    -- I: 1,048,576·x² at 16 is readable, at 17 not
+    ∷ judges caseI (16 ∷ 0 ∷ 0 ∷ 0 ∷ 2 ∷ 0 ∷ []) (answered false)
+    ∷ judges caseI (17 ∷ 0 ∷ 0 ∷ 0 ∷ 2 ∷ 0 ∷ []) (refused 10)
+    -- J: low end equal to high is 6
+    ∷ refuses caseJ 6
+    ∷ []
+
+-- every marked case holds
+pub marked-cases-hold : AllHold markedCases
+unfolding Int._⊕_ Int.neg Int._⊖_ Int._⊗_ Int.power Det.laplace Det.ifNone Det.det Det.rowsFrom Det.determinant Sign.sign Sign.orElse Sign.lexSign Sign.sameSign Crossed.countFrom Crossed.unitColumn Crossed.coefficient Crossed.coefficients Crossed.allHaveSign Crossed.crossed Crossed.remove Crossed.otherCrossed Crossed.exit Grid.up Grid.down Grid.plus Grid.axesFrom Grid.axes Grid.holds Grid.vertices Grid.absent Grid.distinct Grid.under Grid.isOrder Grid.facetVertices Grid.chain Grid.facetOk Grid.placeOk Grid.sameVertex Grid.sameMasks Grid.sameFacet Grid.turn Grid.steps Grid.lastMask Grid.flat Grid.missed Grid.oriented Grid.added Grid.bend Grid.downs Grid.flatSide Grid.bentSide Grid.incidence Grid.masksFrom Grid.sideOf Grid.placeAt Grid.placeOf Grid.exchange Grid.lastAxis Grid.butLast Grid.pivotFirst Grid.pivotLast Grid.pivotAt Grid.pivot Grid.orders Step.every Step.column Step.columns Step.crossedFacet Step.readableAll Step.tracable Step.onward Step.stepThrough Step.step Walk.afterTest Walk.afterStep Walk.traceFrom Walk.trace Bytes.byte Bytes.word Bytes.doubleWord Bytes.signed Bytes.signedWord Bytes.signedDoubleWord Bytes.wordOf Bytes.wordBytes Limits.dimensionOk Limits.coordinateLimit Limits.termLimit Limits.coefficientLimit Limits.degreeLimit Limits.readableLimit Limits.stepsPerUnit Job.dimension Job.entryOffset Job.entryLength Job.contentsEnd Job.polynomialLengthOk Job.lengthOk Job.entriesOk Job.contentsOk Job.body Job.lowEnd Job.highEnd Job.axisOk Job.allFrom Job.boxOk Job.termCount Job.coefficientOf Job.exponentOf Job.exponentsZero Job.degree Job.termOk Job.exponentWeight Job.rises Job.polynomialOk Job.decodePlace Job.vertexBytes Job.encodePlace Job.withStart Job.refuseIf Job.openRefusal Values.monomial Values.termValue Values.sumFrom Values.rawSum Values.readableSum Values.valueOf Values.sums Values.insideFrom Values.fieldOf Values.roundSteps Values.hasAxis Values.weightSum Values.overSize Values.coordinateSteps Values.pointFrom Values.pointOf Operations.unless Operations.firstRefusal Operations.polynomialTerms Operations.openValues Operations.opened Operations.bodyRefusal Operations.partUnless Operations.bodyPart Operations.facetRefusal Operations.crossedIn Operations.placeBad Operations.facetOf Operations.judgeRefusal Operations.judged Operations.pointRefusal Operations.pointed Operations.stepIn Operations.stepped Operations.startOf Operations.traceRefusal Operations.sameSpot Operations.traced Operations.spaceOf Operations.verdictAndCount Operations.encodePlaces Operations.bufferAfter Count.ones Count.onesIn markedCases placesA placesC caseA caseC caseF caseG caseH caseI caseJ
+marked-cases-hold =
+    ((refl, refl, refl), (refl, (refl, (refl, (refl, (refl, (refl, (refl, (refl, (refl, (refl, (refl, (refl, (refl, (refl, (refl, (refl, (refl, (refl, (refl, (refl, (refl, (refl, (refl, tt))))))))))))))))))))))))
