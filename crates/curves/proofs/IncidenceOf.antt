@@ -10,14 +10,17 @@ use lib.Count.{ones, ones-le}
 use lib.Pow.{pow-pos}
 use borrow.Author.Tests.{eqb-true, ltb-true, lt-ltb, le-ltb}
 use Rattle.exact.specs.Crossed.{remove}
+use Rattle.exact.proofs.Position.{length-remove}
 use Rattle.curves.specs.Grid.{Vertex, Place, Incidence, down, chain, masksFrom, lastMask, placeAt, placeOf, incidence, isOrder, facetOk, placeOk}
-use Rattle.curves.proofs.MaskBits.{and-left, and-right, bit, ones-zero}
+use Rattle.curves.proofs.OrderTests.{and-left, and-right}
+use Rattle.curves.proofs.Vertices.{up-down, length-down}
+use Rattle.curves.proofs.MaskBits.{bit, ones-zero}
 use Rattle.curves.proofs.MaskAxes.{Power, one-axis, ones-complement, filled-bit}
 use Rattle.curves.proofs.MaskOrder.{Fresh, weight, fresh-order, fresh-first, fresh-last, fresh-exchange}
 use Rattle.curves.proofs.MaskChain.{Single, Double, last-bound, chain-ones, chain-single, chain-double}
 use Rattle.curves.proofs.MaskSteps.{last-masks, remove-end, side-end, side-between}
-use Rattle.curves.proofs.IncidencePlace.{place, place-behind, up-down, incidence-place}
-use Rattle.curves.proofs.IncidenceOk.{length-down, length-masks, length-remove, place-ok}
+use Rattle.curves.proofs.IncidencePlace.{place, place-behind, incidence-place}
+use Rattle.curves.proofs.IncidenceOk.{length-masks, place-ok}
 
 -- ---- what the form of a place says
 
@@ -76,7 +79,7 @@ flat-simplex n c ms s a e k u σ l z = go s u
           corner-length = e;
           out-bound = omega (arith, size);
           is-place =
-              place-behind c (σ .order ++ a ∷ []) (length (σ .order)) (omega (arith, long))
+              place-behind c (σ .order ++ a ∷ []) (length (σ .order))
               ∙ ap₂ (place c) (remove-end 0 (σ .order) a ∙ σ .masks) (side-end (σ .order) a);
         }
     go (suc zero) v =
@@ -115,7 +118,7 @@ between-simplex n c ms s o a b p e k f q t =
       corner-length = e;
       out-bound = omega arith;
       is-place =
-          place-behind c (o ++ a ∷ b ∷ p) (length o) (omega arith) ∙ ap₂ (place c) q (side-between o a b p ∙ t);
+          place-behind c (o ++ a ∷ b ∷ p) (length o) ∙ ap₂ (place c) q (side-between o a b p ∙ t);
     }
 
 -- the two neighbours exchanged leave out the same mask

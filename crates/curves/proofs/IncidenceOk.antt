@@ -3,43 +3,26 @@ use Prim.Native.Nat.{ℕ, suc, zero, _+_, _^_, _≤_, _<_}
 use mathlib.Core.Path.{_≡_, refl, ap, _∙_}
 use mathlib.Core.Bool.{Bool, true, false, cond}
 use mathlib.Core.List.{List, [], _∷_}
-use native.Mathlib.Nat.{not-suc-le-zero}
 use native.Mathlib.Omega.{arith}
 use lib.ListN.{length}
 use lib.Dec.{ltb}
 use lib.Pow.{pow-pos}
 use borrow.Author.Tests.{eq-eqb, lt-ltb}
 use Rattle.exact.specs.Crossed.{remove}
-use Rattle.curves.specs.Grid.{Vertex, up, down, chain, masksFrom, sideOf, placeAt, isOrder, facetOk, placeOk}
-use Rattle.curves.proofs.MaskBits.{both}
-use Rattle.curves.proofs.MaskOrder.{Fresh, next, order-fresh, order-length, fresh-zero}
+use Rattle.exact.proofs.Position.{length-remove}
+use Rattle.curves.specs.Grid.{Vertex, up, chain, masksFrom, sideOf, placeAt, isOrder, facetOk, placeOk}
+use Rattle.curves.proofs.OrderTests.{both, order-length}
+use Rattle.curves.proofs.Vertices.{length-up}
+use Rattle.curves.proofs.MaskOrder.{Fresh, next, order-fresh, fresh-zero}
 use Rattle.curves.proofs.MaskChain.{fresh-chain, chain-remove}
 use Rattle.curves.proofs.IncidencePlace.{place}
 
 -- ---- lengths
 
-pub length-up : (a : ℕ) (v : Vertex) → length (up a v) ≡ length v
-unfolding up
-length-up a [] = refl
-length-up zero (x ∷ v) = refl
-length-up (suc a) (x ∷ v) = ap suc (length-up a v)
-
-pub length-down : (a : ℕ) (v : Vertex) → length (down a v) ≡ length v
-unfolding down
-length-down a [] = refl
-length-down zero (x ∷ v) = refl
-length-down (suc a) (x ∷ v) = ap suc (length-down a v)
-
 pub length-masks : (m : ℕ) (o : List ℕ) → length (masksFrom m o) ≡ length o
 unfolding masksFrom
 length-masks m [] = refl
 length-masks m (a ∷ o) = ap suc (length-masks (m + 2 ^ a) o)
-
-pub length-remove : (i : ℕ) (l : List ℕ) → i < length l → suc (length (remove i l)) ≡ length l
-unfolding remove
-length-remove i [] u = absurd (not-suc-le-zero u)
-length-remove zero (x ∷ l) u = refl
-length-remove (suc i) (x ∷ l) u = ap suc (length-remove i l (omega arith))
 
 -- ---- sides
 

@@ -6,35 +6,18 @@ use mathlib.Core.Bool.{Bool, true, false, cond}
 use mathlib.Core.List.{List, [], _∷_, _++_}
 use native.Mathlib.Nat.{not-suc-le-zero}
 use native.Mathlib.Omega.{arith}
-use lib.IntN.{ℤ}
 use lib.ListN.{length, length-append}
 use lib.Dec.{ltb}
 use lib.Count.{ones}
 use borrow.Author.Tests.{eq-eqb, ne-eqb}
-use Rattle.exact.specs.Int.{_⊕_, neg, 1ℤ}
-use Rattle.exact.proofs.Ring.{add-assoc, add-zero, add-neg, neg-add, sub-eq}
 use Rattle.exact.specs.Crossed.{remove}
 use Rattle.curves.specs.Grid.{Vertex, Place, up, down, downs, axes, masksFrom, lastMask, steps, flat, missed, added, bend, flatSide, bentSide, incidence, sideOf, placeAt, isOrder}
+use Rattle.curves.proofs.OrderTests.{order-length}
+use Rattle.curves.proofs.Vertices.{down-up}
 use Rattle.curves.proofs.MaskBits.{bit, bit-add-same, ones-zero}
 use Rattle.curves.proofs.MaskAxes.{axes-power}
-use Rattle.curves.proofs.MaskOrder.{Fresh, next, weight, weight-append, order-fresh, order-length, fresh-zero, fresh-front, fresh-back, fresh-ones, fresh-full}
+use Rattle.curves.proofs.MaskOrder.{Fresh, next, weight, weight-append, order-fresh, fresh-zero, fresh-front, fresh-back, fresh-ones, fresh-full}
 use Rattle.curves.proofs.MaskSteps.{powers, last-masks, steps-masks, added-powers, remove-end, side-end, side-between, last-between, steps-between, oriented-two, added-between, ones-powers, bend-between}
-
--- ---- up and down
-
-pub down-up : (a : ℕ) (v : Vertex) → down a (up a v) ≡ v
-unfolding up down
-down-up a [] = refl
-down-up zero (x ∷ v) = ap (λ (y : ℤ). y ∷ v) (sub-eq (x ⊕ 1ℤ) 1ℤ ∙ add-assoc x 1ℤ (neg 1ℤ) ∙ ap (λ (y : ℤ). x ⊕ y) (add-neg 1ℤ) ∙ add-zero x)
-down-up (suc a) (x ∷ v) = ap (λ (w : Vertex). x ∷ w) (down-up a v)
-
-pub up-down : (a : ℕ) (v : Vertex) → up a (down a v) ≡ v
-unfolding up down
-up-down a [] = refl
-up-down zero (x ∷ v) =
-    ap (λ (y : ℤ). y ∷ v)
-    (ap (λ (y : ℤ). y ⊕ 1ℤ) (sub-eq x 1ℤ) ∙ add-assoc x (neg 1ℤ) 1ℤ ∙ ap (λ (y : ℤ). x ⊕ y) (neg-add 1ℤ) ∙ add-zero x)
-up-down (suc a) (x ∷ v) = ap (λ (w : Vertex). x ∷ w) (up-down a v)
 
 -- ---- places and the two forms of an incidence
 
@@ -42,11 +25,10 @@ abbrev pub place : Vertex → List ℕ → ℕ → Place
 place c ms s = record { facet = record { low = c; masks = ms }; side = s }
 
 -- the place without a vertex behind the first
-pub place-behind : (c : Vertex) (o : List ℕ) (i : ℕ) → 0 < length o
-    → placeAt c o (suc i) ≡ place c (remove i (masksFrom 0 o)) (sideOf i o)
-unfolding placeAt
-place-behind c [] i l = absurd (not-suc-le-zero l)
-place-behind c (a ∷ o) i l = refl
+pub place-behind : (c : Vertex) (o : List ℕ) (i : ℕ) → placeAt c o (suc i) ≡ place c (remove i (masksFrom 0 o)) (sideOf i o)
+unfolding placeAt remove masksFrom sideOf
+place-behind c [] i = refl
+place-behind c (a ∷ o) i = refl
 
 pub incidence-flat : (n : ℕ) (p : Place) → flat n (p .facet .masks) ≡ true → incidence n p ≡ flatSide n (p .facet) (p .side)
 unfolding incidence
@@ -116,7 +98,7 @@ incidence-last n c a o h = go (fresh-back o (a ∷ []) whole)
     go (next l z r) =
         let f : Fresh n 0 o = fresh-front o (a ∷ []) whole in
         ap (incidence n)
-        (place-behind c (o ++ a ∷ []) (length o) (omega (arith, length-append o (a ∷ [])))
+        (place-behind c (o ++ a ∷ []) (length o)
         ∙ ap₂ (place c) (remove-end 0 o a) (side-end o a))
         ∙ flat-low n c (masksFrom 0 o) o a (flat-masks n o f size) (ap (added n 0) (steps-masks 0 o) ∙ added-powers 0 f)
         (missed-masks n o a l full)
@@ -156,7 +138,7 @@ incidence-between n c a b o p h = go (fresh-back o (a ∷ b ∷ p) whole)
         ∙ added-between (cond (ltb a b) 0 1) o (2 ^ a + 2 ^ b) p (fresh-front o (a ∷ b ∷ p) whole)
         ∙ ap₂ (λ (x y : List ℕ). o ++ (x ++ y)) (oriented-two n a b l k other) (added-powers (cond (ltb a b) 0 1) r) in
         ap (incidence n)
-        (place-behind c (o ++ a ∷ b ∷ p) (length o) (omega (arith, length-append o (a ∷ b ∷ p)))
+        (place-behind c (o ++ a ∷ b ∷ p) (length o)
         ∙ ap (place c ms) (side-between o a b p))
         ∙ incidence-bent n (place c ms (cond (ltb a b) 0 1)) (bent-masks n o a b p h)
         ∙ ap₂ (λ (x : List ℕ) (y : ℕ). record { corner = c; order = x; out = y }) axes'

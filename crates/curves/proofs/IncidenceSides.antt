@@ -15,8 +15,8 @@ use Rattle.exact.specs.Int.{_⊕_, neg, 0ℤ, 1ℤ}
 use Rattle.exact.proofs.Ring.{add-assoc, zero-add, neg-add}
 use Rattle.exact.specs.Crossed.{remove}
 use Rattle.curves.specs.Grid.{Vertex, Facet, Place, Incidence, up, masksFrom, placeAt, placeOf, incidence, isOrder, facetOk, placeOk}
-use Rattle.curves.proofs.MaskBits.{both}
-use Rattle.curves.proofs.MaskOrder.{Fresh, next, order-fresh, order-length}
+use Rattle.curves.proofs.OrderTests.{both, order-length}
+use Rattle.curves.proofs.MaskOrder.{Fresh, next, order-fresh}
 use Rattle.curves.proofs.IncidenceOf.{place-formed, place-incidence, Valid, incidence-ok, incidence-of-place, place-of-ok}
 
 -- ---- the facets of one simplex

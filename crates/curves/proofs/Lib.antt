@@ -28,3 +28,8 @@ pub mod SameFacet
 pub mod Listed
 pub mod Orders
 pub mod Finite
+pub mod GridStep
+pub mod GridWalk
+pub mod GridLaws
+pub mod Demand
+pub mod GridExample

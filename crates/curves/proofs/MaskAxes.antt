@@ -88,31 +88,37 @@ parity m = go (m % 2) refl
     go (suc zero) e = odd e
     go (suc (suc r)) e = absurd (omega arith)
 
+-- what holds of a mask with k + 1 ones: from its half if it is even, from its half with k ones if it is odd
+module _ (Q : ℕ → ℕ → Type 0) (k : ℕ)
+    (double : (n m : ℕ) → m % 2 ≡ 0 → Q n (m / 2) → Q (suc n) m)
+    (begin : (n m : ℕ) → m % 2 ≡ 1 → m / 2 < 2 ^ n → ones (m / 2) ≡ k → Q (suc n) m) where
+  by-halves : (n m : ℕ) → m < 2 ^ n → ones m ≡ suc k → Q n m
+  by-halves zero m u e = absurd (omega (arith, ap ones m0, ones-zero))
+    where
+      m0 : m ≡ 0
+      m0 = omega arith
+  by-halves (suc n) m u e = go (λ h. by-halves n (m / 2) (omega (arith, two-pow-succ n)) h) (parity m)
+    where
+      go : (ones (m / 2) ≡ suc k → Q n (m / 2)) → Parity m → Q (suc n) m
+      go f (even p) = double n m p (f (omega (arith, ones-step m)))
+      go f (odd p) = begin n m p (omega (arith, two-pow-succ n)) (omega (arith, ones-step m))
+
 pub one-axis : (n m : ℕ) → m < 2 ^ n → ones m ≡ 1 → Power n m
-one-axis zero m u e = absurd (omega (arith, ap ones m0, ones-zero))
+one-axis = by-halves Power 0 double begin
   where
-    m0 : m ≡ 0
-    m0 = omega arith
-one-axis (suc n) m u e = go (λ h. one-axis n (m / 2) (omega (arith, two-pow-succ n)) h) (parity m)
-  where
-    go : (ones (m / 2) ≡ 1 → Power n (m / 2)) → Parity m → Power (suc n) m
-    go f (even p) =
-        let r : Power n (m / 2) = f (omega (arith, ones-step m)) in
-        record { axis = suc (r .axis); inside = omega arith; value = omega (arith, two-pow-succ (r .axis)) }
-    go f (odd p) =
-        let half : m / 2 ≡ 0 = no-ones n (m / 2) (omega (arith, two-pow-succ n)) (omega (arith, ones-step m)) in
+    double : (n m : ℕ) → m % 2 ≡ 0 → Power n (m / 2) → Power (suc n) m
+    double n m p r = record { axis = suc (r .axis); inside = omega arith; value = omega (arith, two-pow-succ (r .axis)) }
+
+    begin : (n m : ℕ) → m % 2 ≡ 1 → m / 2 < 2 ^ n → ones (m / 2) ≡ 0 → Power (suc n) m
+    begin n m p u e =
+        let half : m / 2 ≡ 0 = no-ones n (m / 2) u e in
         record { axis = 0; inside = omega arith; value = omega arith }
 
 pub two-axes : (n m : ℕ) → m < 2 ^ n → ones m ≡ 2 → Powers n m
-two-axes zero m u e = absurd (omega (arith, ap ones m0, ones-zero))
+two-axes = by-halves Powers 1 double begin
   where
-    m0 : m ≡ 0
-    m0 = omega arith
-two-axes (suc n) m u e = go (λ h. two-axes n (m / 2) (omega (arith, two-pow-succ n)) h) (parity m)
-  where
-    go : (ones (m / 2) ≡ 2 → Powers n (m / 2)) → Parity m → Powers (suc n) m
-    go f (even p) =
-        let r : Powers n (m / 2) = f (omega (arith, ones-step m)) in
+    double : (n m : ℕ) → m % 2 ≡ 0 → Powers n (m / 2) → Powers (suc n) m
+    double n m p r =
         record {
           lower = suc (r .lower);
           upper = suc (r .upper);
@@ -120,8 +126,10 @@ two-axes (suc n) m u e = go (λ h. two-axes n (m / 2) (omega (arith, two-pow-suc
           inside = omega arith;
           value = omega (arith, two-pow-succ (r .lower), two-pow-succ (r .upper));
         }
-    go f (odd p) =
-        let r : Power n (m / 2) = one-axis n (m / 2) (omega (arith, two-pow-succ n)) (omega (arith, ones-step m)) in
+
+    begin : (n m : ℕ) → m % 2 ≡ 1 → m / 2 < 2 ^ n → ones (m / 2) ≡ 1 → Powers (suc n) m
+    begin n m p u e =
+        let r : Power n (m / 2) = one-axis n (m / 2) u e in
         record {
           lower = 0;
           upper = suc (r .axis);

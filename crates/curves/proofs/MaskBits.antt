@@ -1,26 +1,14 @@
 -- Bits of masks: what becomes of the bits, the number of ones, the bound and `holds` when a power 2 ^ a is added whose bit was 0.
 use Prim.Native.Nat.{ℕ, suc, zero, _+_, _-_, _/_, _%_, _^_, _≤_, _<_}
-use mathlib.Core.Path.{_≡_, refl, sym, ap, ap₂, _∙_}
-use mathlib.Core.Bool.{Bool, true, false, _&&_, false≢true}
+use mathlib.Core.Path.{_≡_, refl, sym, ap, _∙_}
+use mathlib.Core.Bool.{true}
 use native.Mathlib.Nat.{two-pow-succ, not-suc-le-zero}
 use native.Mathlib.Omega.{arith}
 use lib.Dec.{leb}
 use lib.Count.{ones, ones-step}
 use borrow.Author.Tests.{leb-true, le-leb}
 use Rattle.curves.specs.Grid.{holds}
-
--- ---- two tests joined
-
-pub both : {b c : Bool} → b ≡ true → c ≡ true → b && c ≡ true
-both p q = ap₂ _&&_ p q
-
-pub and-left : (b c : Bool) → b && c ≡ true → b ≡ true
-and-left true c e = refl
-and-left false c e = absurd (false≢true e)
-
-pub and-right : (b c : Bool) → b && c ≡ true → c ≡ true
-and-right true c e = e
-and-right false c e = absurd (false≢true e)
+use Rattle.curves.proofs.OrderTests.{and-left, and-right, both}
 
 -- ---- bits
 

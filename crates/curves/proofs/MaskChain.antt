@@ -12,7 +12,8 @@ use lib.Pow.{pow-pos}
 use borrow.Author.Tests.{ltb-true, lt-ltb, eqb-false, not-true, ne-eqb}
 use Rattle.exact.specs.Crossed.{remove}
 use Rattle.curves.specs.Grid.{holds, chain, masksFrom, lastMask}
-use Rattle.curves.proofs.MaskBits.{both, and-left, and-right, bit, add-under, bit-add-other, holds-add, holds-trans, holds-le, holds-ones, holds-bit, holds-bits}
+use Rattle.curves.proofs.OrderTests.{and-left, and-right, both}
+use Rattle.curves.proofs.MaskBits.{bit, add-under, bit-add-other, holds-add, holds-trans, holds-le, holds-ones, holds-bit, holds-bits}
 use Rattle.curves.proofs.MaskAxes.{Power, Powers, no-ones, one-axis, two-axes}
 use Rattle.curves.proofs.MaskOrder.{Fresh, none, next}
 

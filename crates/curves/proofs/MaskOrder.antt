@@ -10,9 +10,10 @@ use lib.ListN.{length}
 use lib.Dec.{eqb, ltb}
 use lib.Count.{ones}
 use lib.Pow.{pow-pos}
-use borrow.Author.Tests.{ltb-true, eqb-true, lt-ltb, eq-eqb, ne-eqb}
+use borrow.Author.Tests.{ltb-true, lt-ltb, eq-eqb, ne-eqb}
 use Rattle.curves.specs.Grid.{absent, distinct, under, isOrder}
-use Rattle.curves.proofs.MaskBits.{both, and-left, and-right, bit, bit-zero, bit-add-same, bit-add-other, ones-add, ones-zero, add-under}
+use Rattle.curves.proofs.OrderTests.{and-left, and-right, both, order-under, order-distinct}
+use Rattle.curves.proofs.MaskBits.{bit, bit-zero, bit-add-same, bit-add-other, ones-add, ones-zero, add-under}
 use Rattle.curves.proofs.MaskAxes.{all-ones}
 
 -- each axis is under n, and its bit is 0 in the sum of m and the powers of the axes before it
@@ -45,15 +46,8 @@ fresh-from n m (a ∷ o) u d h =
 pub distinct-fresh : (n : ℕ) (o : List ℕ) → under n o ≡ true → distinct o ≡ true → Fresh n 0 o
 distinct-fresh n o u d = fresh-from n 0 o u d (λ b q. bit-zero b)
 
-pub order-length : (n : ℕ) (o : List ℕ) → isOrder n o ≡ true → length o ≡ n
-unfolding isOrder
-order-length n o h = eqb-true (length o) n (and-left (eqb (length o) n) (under n o && distinct o) h)
-
 pub order-fresh : (n : ℕ) (o : List ℕ) → isOrder n o ≡ true → Fresh n 0 o
-unfolding isOrder
-order-fresh n o h =
-    let r : under n o && distinct o ≡ true = and-right (eqb (length o) n) (under n o && distinct o) h in
-    distinct-fresh n o (and-left (under n o) (distinct o) r) (and-right (under n o) (distinct o) r)
+order-fresh n o h = distinct-fresh n o (order-under n o h) (order-distinct n o h)
 
 -- ---- back to the test
 

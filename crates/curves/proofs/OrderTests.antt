@@ -17,8 +17,8 @@ and-left a b e = and-eq-true-iff a b .0 e .0
 pub and-right : (a b : Bool) → a && b ≡ true → b ≡ true
 and-right a b e = and-eq-true-iff a b .0 e .1
 
-pub and-both : (a b : Bool) → a ≡ true → b ≡ true → a && b ≡ true
-and-both a b p q = and-eq-true-iff a b .1 (p, q)
+pub both : {a b : Bool} → a ≡ true → b ≡ true → a && b ≡ true
+both {a} {b} p q = and-eq-true-iff a b .1 (p, q)
 
 -- ---- the parts of an order
 pub order-length : (n : ℕ) (o : List ℕ) → isOrder n o ≡ true → length o ≡ n

@@ -1,7 +1,7 @@
 -- The pivot is the P rule of document 002, section 5: with indices modulo n + 1, vertex s_i becomes s_(i−1) + s_(i+1) − s_i and the
 -- others stay. Where 0 < i < n the new vertex stands in the place of the old one, for i = 0 it stands last, for i = n first.
 use Prim.Native.Nat.{ℕ, suc, zero, _+_, _-_, _%_, _<_, _≤_}
-use mathlib.Core.Path.{_≡_, refl, sym, ap, _∙_, subst}
+use mathlib.Core.Path.{_≡_, refl, sym, ap, _∙_}
 use mathlib.Core.Bool.{cond}
 use mathlib.Core.List.{List, [], _∷_, _++_}
 use native.Mathlib.Omega.{arith}
@@ -16,8 +16,9 @@ use Rattle.exact.specs.Crossed.{remove}
 use Rattle.exact.proofs.Ring.{add-zero, zero-add, add-neg, neg-sum, add-assoc, add-comm, sub-eq}
 use Rattle.curves.specs.Grid.{Vertex, Incidence, up, down, vertices, exchange, pivotAt, pivot}
 use Rattle.curves.proofs.OrderTests.{length-snoc, order-length}
-use Rattle.curves.proofs.Vertices.{length-up, length-vertices}
-use Rattle.curves.proofs.Pivot.{up-down, pivot-first, pivot-last, pivot-middle, pivot-cases, Valid}
+use Rattle.curves.proofs.Vertices.{up-down, length-up, length-vertices}
+use Rattle.curves.proofs.IncidenceOf.{Valid}
+use Rattle.curves.proofs.Pivot.{pivot-first, pivot-last, pivot-middle, pivot-cases}
 
 -- ---- the rule
 
@@ -229,8 +230,8 @@ p-ruleAt = pivot-cases P first last middle
     middle c o i h = rw (pivot-middle c o i (omega arith), ne-eqb (suc i) (length o) (omega arith)) (p-rule-inner c o i h)
 
 -- the vertices of the neighbour are those of the simplex with s_(i−1) + s_(i+1) − s_i for s_i
-pub p-rule : (n : ℕ) (t : Incidence) → Valid n t → verticesOf (pivot t) ≡ replaced n (verticesOf t) (t .out) (reflected (verticesOf t) (t .out))
+pub p-rule : (n : ℕ) (t : Incidence) → 0 < n → Valid n t → verticesOf (pivot t) ≡ replaced n (verticesOf t) (t .out) (reflected (verticesOf t) (t .out))
 unfolding pivot verticesOf
-p-rule n t w =
-    let l : length (t .order) ≡ n = order-length n (t .order) (w .order-ok) in
-    rw l at (p-ruleAt (t .corner) (t .order) (t .out) (omega (arith, w .positive)) (omega (arith, w .out-bound)))
+p-rule n t p w =
+    let l : length (t .order) ≡ n = order-length n (t .order) (w .is-order) in
+    rw l at (p-ruleAt (t .corner) (t .order) (t .out) (omega arith) (omega (arith, w .out-bound)))

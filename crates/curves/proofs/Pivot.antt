@@ -1,5 +1,5 @@
 -- The neighbour that shares a facet, by `pivot`: it is a simplex again, its neighbour is the simplex it came from, and its place is
--- the place turned. The sides of all places are 0 or 1.
+-- the place turned.
 use Prim.Native.Nat.{ℕ, suc, zero, _+_, _-_, _^_, _<_, _≤_}
 use mathlib.Core.Path.{_≡_, refl, sym, ap, _∙_, subst}
 use mathlib.Core.Bool.{Bool, true, false, cond}
@@ -9,25 +9,14 @@ use lib.ListN.{length}
 use lib.Dec.{eqb, ltb}
 use borrow.Author.Tests.{eqb-true, eqb-false, eq-eqb, ne-eqb, ltb-true, ltb-false, lt-ltb, le-ltb}
 use Rattle.exact.specs.Crossed.{remove}
-use Rattle.exact.proofs.Ring.{add-zero, add-neg, neg-add, add-assoc, sub-eq}
 use Rattle.curves.specs.Grid.{Vertex, Incidence, up, down, distinct, isOrder, masksFrom, sideOf, placeAt}
 use Rattle.curves.specs.Grid.{placeOf, turn, exchange, lastAxis, butLast, pivotFirst, pivotLast, pivotAt, pivot}
 use Rattle.curves.proofs.OrderTests.{order-length, order-distinct, distinct-head, distinct-tail}
 use Rattle.curves.proofs.OrderTests.{absent-head, length-snoc, order-snoc, length-exchange, order-exchange}
-use Rattle.curves.proofs.Vertices.{length-up, length-down}
-
--- ---- one up and one down
-pub down-up : (a : ℕ) (v : Vertex) → down a (up a v) ≡ v
-unfolding up down
-down-up a [] = refl
-down-up zero (x ∷ v) = rw (sub-eq, add-assoc, add-neg, add-zero)
-down-up (suc a) (x ∷ v) = ap (λ w. x ∷ w) (down-up a v)
-
-pub up-down : (a : ℕ) (v : Vertex) → up a (down a v) ≡ v
-unfolding up down
-up-down a [] = refl
-up-down zero (x ∷ v) = rw (sub-eq, add-assoc, neg-add, add-zero)
-up-down (suc a) (x ∷ v) = ap (λ w. x ∷ w) (up-down a v)
+use Rattle.curves.proofs.Vertices.{up-down, down-up, length-up, length-down}
+use Rattle.curves.proofs.MaskSteps.{remove-end, side-end}
+use Rattle.curves.proofs.IncidencePlace.{place-behind}
+use Rattle.curves.proofs.IncidenceOf.{Valid}
 
 -- ---- the last axis of an order
 pub lastAxis-snoc : (a : ℕ) (o : List ℕ) → lastAxis (o ++ (a ∷ [])) ≡ a
@@ -90,13 +79,6 @@ module _ (P : Vertex → List ℕ → ℕ → Type 0)
 
 -- ---- the pivot is a simplex again
 
--- a simplex of dimension n with one of its vertices: an order of the n axes, n coordinates, an index from 0 to n
-pub record Valid (n : ℕ) (t : Incidence) : Type 0 where
-  pub positive : 0 < n
-  pub order-ok : isOrder n (t .order) ≡ true
-  pub corner-length : length (t .corner) ≡ n
-  pub out-bound : t .out ≤ n
-
 pivotAt-valid : (n : ℕ) (c : Vertex) (o : List ℕ) (i : ℕ) → 0 < n → isOrder n o ≡ true → length c ≡ n → i ≤ n → Valid n (pivotAt c o i)
 pivotAt-valid n c o i p e l h = pivot-cases P first last middle c o i (omega (arith, order-length n o e)) (omega (arith, order-length n o e)) e l
   where
@@ -107,8 +89,7 @@ pivotAt-valid n c o i p e l h = pivot-cases P first last middle c o i (omega (ar
     first c a o e l =
         rw (pivot-first c a o)
         record {
-          positive = p;
-          order-ok = order-snoc n a o ∙ e;
+          is-order = order-snoc n a o ∙ e;
           corner-length = length-up a c ∙ l;
           out-bound = omega (arith, order-length n (a ∷ o) e);
         }
@@ -117,8 +98,7 @@ pivotAt-valid n c o i p e l h = pivot-cases P first last middle c o i (omega (ar
     last c a o e l =
         rw (pivot-last c a o)
         record {
-          positive = p;
-          order-ok = sym (order-snoc n a o) ∙ e;
+          is-order = sym (order-snoc n a o) ∙ e;
           corner-length = length-down a c ∙ l;
           out-bound = omega arith;
         }
@@ -127,16 +107,15 @@ pivotAt-valid n c o i p e l h = pivot-cases P first last middle c o i (omega (ar
     middle c o i h e l =
         rw (pivot-middle c o i (omega arith))
         record {
-          positive = p;
-          order-ok = order-exchange n i o ∙ e;
+          is-order = order-exchange n i o ∙ e;
           corner-length = l;
           out-bound = omega (arith, order-length n o e);
         }
 
 -- the neighbour of a simplex is a simplex
-pub pivot-valid : (n : ℕ) (t : Incidence) → Valid n t → Valid n (pivot t)
+pub pivot-valid : (n : ℕ) (t : Incidence) → 0 < n → Valid n t → Valid n (pivot t)
 unfolding pivot
-pivot-valid n t w = pivotAt-valid n (t .corner) (t .order) (t .out) (w .positive) (w .order-ok) (w .corner-length) (w .out-bound)
+pivot-valid n t p w = pivotAt-valid n (t .corner) (t .order) (t .out) p (w .is-order) (w .corner-length) (w .out-bound)
 
 -- ---- the pivot undoes itself
 pivotAt-pivot : (c : Vertex) (o : List ℕ) (i : ℕ) → 0 < length o → i ≤ length o → pivot (pivotAt c o i) ≡ record { corner = c; order = o; out = i }
@@ -156,39 +135,22 @@ pivotAt-pivot = pivot-cases P first last middle
     middle c o i h = rw (pivot-middle c o i (omega arith), pivot-middle c (exchange i o) i (omega (arith, length-exchange i o)), exchange-exchange i o)
 
 -- the neighbour's neighbour over the same facet is the simplex itself
-pub pivot-pivot : (n : ℕ) (t : Incidence) → Valid n t → pivot (pivot t) ≡ t
+pub pivot-pivot : (n : ℕ) (t : Incidence) → 0 < n → Valid n t → pivot (pivot t) ≡ t
 unfolding pivot
-pivot-pivot n t w =
+pivot-pivot n t p w =
     pivotAt-pivot (t .corner) (t .order) (t .out)
-    (omega (arith, w .positive, order-length n (t .order) (w .order-ok)))
-    (omega (arith, w .out-bound, order-length n (t .order) (w .order-ok)))
+    (omega (arith, order-length n (t .order) (w .is-order)))
+    (omega (arith, w .out-bound, order-length n (t .order) (w .is-order)))
 
 -- ---- the pivot is the other side of the same facet
-
--- the place of a simplex without a vertex other than its corner
-pub place-behind : (c : Vertex) (o : List ℕ) (i : ℕ) →
-    placeAt c o (suc i) ≡ record { facet = record { low = c; masks = remove i (masksFrom 0 o) }; side = sideOf i o }
-unfolding placeAt remove masksFrom sideOf
-place-behind c [] i = refl
-place-behind c (a ∷ o) i = refl
 
 place-first : (c : Vertex) (a : ℕ) (o : List ℕ) → placeAt c (a ∷ o) 0 ≡ record { facet = record { low = up a c; masks = masksFrom 0 o }; side = 1 }
 unfolding placeAt
 place-first c a o = refl
 
-masks-last : (m a : ℕ) (o : List ℕ) → remove (length o) (masksFrom m (o ++ (a ∷ []))) ≡ masksFrom m o
-unfolding remove masksFrom
-masks-last m a [] = refl
-masks-last m a (b ∷ o) = ap (λ l. (m + 2 ^ b) ∷ l) (masks-last (m + 2 ^ b) a o)
-
-side-last : (a : ℕ) (o : List ℕ) → sideOf (length o) (o ++ (a ∷ [])) ≡ 0
-unfolding sideOf
-side-last a [] = refl
-side-last a (b ∷ o) = side-last a o
-
 place-last : (c : Vertex) (a : ℕ) (o : List ℕ) →
     placeAt c (o ++ (a ∷ [])) (suc (length o)) ≡ record { facet = record { low = c; masks = masksFrom 0 o }; side = 0 }
-place-last c a o = rw (place-behind c (o ++ (a ∷ [])) (length o), masks-last 0 a o, side-last a o)
+place-last c a o = rw (place-behind c (o ++ (a ∷ [])) (length o), remove-end 0 o a, side-end o a)
 
 masks-exchange : (m i : ℕ) (o : List ℕ) → remove i (masksFrom m (exchange i o)) ≡ remove i (masksFrom m o)
 unfolding remove masksFrom exchange
@@ -226,33 +188,10 @@ pivotAt-turns = pivot-cases P first last middle
         rw (pivot-middle c o i (omega arith), place-behind c o i, place-behind c (exchange i o) i, masks-exchange 0 i o, side-exchange i o d h)
 
 -- the neighbour's place is the same facet with the other side
-pub pivot-turns : (n : ℕ) (t : Incidence) → Valid n t → placeOf (pivot t) ≡ turn (placeOf t)
+pub pivot-turns : (n : ℕ) (t : Incidence) → 0 < n → Valid n t → placeOf (pivot t) ≡ turn (placeOf t)
 unfolding pivot placeOf
-pivot-turns n t w =
+pivot-turns n t p w =
     pivotAt-turns (t .corner) (t .order) (t .out)
-    (omega (arith, w .positive, order-length n (t .order) (w .order-ok)))
-    (omega (arith, w .out-bound, order-length n (t .order) (w .order-ok)))
-    (order-distinct n (t .order) (w .order-ok))
-
--- ---- sides
-cond-under-two : (t : Bool) → cond t 0 1 < 2
-cond-under-two true = omega arith
-cond-under-two false = omega arith
-
-sideOf-under-two : (i : ℕ) (o : List ℕ) → sideOf i o < 2
-unfolding sideOf
-sideOf-under-two i [] = omega arith
-sideOf-under-two zero (a ∷ []) = omega arith
-sideOf-under-two zero (a ∷ b ∷ o) = cond-under-two (ltb a b)
-sideOf-under-two (suc i) (a ∷ o) = sideOf-under-two i o
-
-placeAt-side : (c : Vertex) (o : List ℕ) (i : ℕ) → placeAt c o i .side < 2
-unfolding placeAt
-placeAt-side c [] i = omega arith
-placeAt-side c (a ∷ o) zero = omega arith
-placeAt-side c (a ∷ o) (suc i) = sideOf-under-two i (a ∷ o)
-
--- a place's side is 0 or 1
-pub side-under-two : (t : Incidence) → placeOf t .side < 2
-unfolding placeOf
-side-under-two t = placeAt-side (t .corner) (t .order) (t .out)
+    (omega (arith, order-length n (t .order) (w .is-order)))
+    (omega (arith, w .out-bound, order-length n (t .order) (w .is-order)))
+    (order-distinct n (t .order) (w .is-order))

@@ -11,7 +11,7 @@ use lib.Dec.{eqb}
 use lib.Signed.{leZ}
 use borrow.Author.Tests.{leb-true, le-leb, eqb-true, eqb-false, eq-eqb}
 use Rattle.curves.specs.Grid.{Vertex, Facet, Place, sameVertex, sameMasks, sameFacet, turn}
-use Rattle.curves.proofs.OrderTests.{and-left, and-right, and-both}
+use Rattle.curves.proofs.OrderTests.{and-left, and-right, both}
 
 -- ---- whole numbers
 pub leZ-refl : (x : ℤ) → leZ x x ≡ true
@@ -69,7 +69,7 @@ sameFacet-sound f g e =
 
 pub sameFacet-complete : (f g : Facet) → f ≡ g → sameFacet f g ≡ true
 unfolding sameFacet
-sameFacet-complete f g e = rw (← e) (and-both _ _ (sameVertex-refl (f .low)) (sameMasks-refl (f .masks)))
+sameFacet-complete f g e = rw (← e) (both (sameVertex-refl (f .low)) (sameMasks-refl (f .masks)))
 
 pub sameVertex-complete : (v w : Vertex) → v ≡ w → sameVertex v w ≡ true
 sameVertex-complete v w e = rw (← e) (sameVertex-refl v)

@@ -1,50 +1,33 @@
 -- The vertices of a simplex are its corner with masks added, and a facet's vertices are the simplex's without the one left out.
--- Numbers of vertices and of coordinates too. Over every dimension: of an order only that no axis stands twice is used.
+-- One up and one down undo each other; numbers of vertices and of coordinates too. Over every dimension: of an order only that no axis
+-- stands twice is used.
 use Prim.Native.Nat.{ℕ, suc, zero, _+_, _/_, _%_, _^_, _<_}
 use mathlib.Core.Path.{_≡_, refl, sym, ap, _∙_}
 use mathlib.Core.Bool.{true}
 use mathlib.Core.List.{List, [], _∷_, map, List·Memᴰ, List·Memᴰ·cases-cons, List·Memᴰ·eq-of-singleton, List·Memᴰ·not-nil}
 use mathlib.Core.Logic.{⊎-elim}
 use native.Mathlib.Omega.{arith}
-use native.Mathlib.Nat.{pow-succ', div-div-eq-div-mul}
 use lib.ListN.{length}
 use borrow.Author.Tests.{eqb-true}
 use Rattle.exact.specs.Crossed.{remove}
-use Rattle.exact.proofs.Ring.{add-zero}
+use Rattle.exact.proofs.Ring.{add-zero, add-neg, neg-add, add-assoc, sub-eq}
+use Rattle.exact.proofs.Simplex.{remove-map}
 use Rattle.curves.specs.Grid.{Vertex, Facet, up, down, plus, vertices, absent, distinct, isOrder, masksFrom, placeAt, facetVertices, facetOk}
+use Rattle.curves.proofs.MaskBits.{bit, bit-zero, half-add, parity-add, bit-add-other}
 use Rattle.curves.proofs.OrderTests.{and-left, order-length, order-distinct, distinct-head, distinct-tail, absent-head, absent-tail}
 
--- ---- bits of a mask
+-- ---- one up and one down
+pub down-up : (a : ℕ) (v : Vertex) → down a (up a v) ≡ v
+unfolding up down
+down-up a [] = refl
+down-up zero (x ∷ v) = rw (sub-eq, add-assoc, add-neg, add-zero)
+down-up (suc a) (x ∷ v) = ap (λ w. x ∷ w) (down-up a v)
 
--- bit a of a mask
-bit : ℕ → ℕ → ℕ
-bit zero m = m % 2
-bit (suc a) m = bit a (m / 2)
-
-bit-is : (a m : ℕ) → bit a m ≡ m / 2 ^ a % 2
-unfolding bit
-bit-is zero m = omega arith
-bit-is (suc a) m = rw (pow-succ' 2 a, ← div-div-eq-div-mul m 2 (2 ^ a)) (bit-is a (m / 2))
-
-bit-zero : (a : ℕ) → bit a 0 ≡ 0
-unfolding bit
-bit-zero zero = refl
-bit-zero (suc a) = bit-zero a
-
--- 2 to a adds to a mask on its half
-half-add : (m a : ℕ) → (m + 2 ^ suc a) / 2 ≡ m / 2 + 2 ^ a
-half-add m a = rw (pow-succ' 2 a) (omega arith)
-
-parity-add : (m a : ℕ) → (m + 2 ^ suc a) % 2 ≡ m % 2
-parity-add m a = rw (pow-succ' 2 a) (omega arith)
-
--- the other bits stay
-bit-add-other : (a b m : ℕ) → (a ≡ b → ⊥) → bit a m ≡ 0 → bit b (m + 2 ^ a) ≡ bit b m
-unfolding bit
-bit-add-other zero zero m h z = absurd (h refl)
-bit-add-other zero (suc b) m h z = ap (bit b) (omega arith)
-bit-add-other (suc a) zero m h z = parity-add m a
-bit-add-other (suc a) (suc b) m h z = rw half-add (bit-add-other a b (m / 2) (λ e. h (ap suc e)) z)
+pub up-down : (a : ℕ) (v : Vertex) → up a (down a v) ≡ v
+unfolding up down
+up-down a [] = refl
+up-down zero (x ∷ v) = rw (sub-eq, add-assoc, neg-add, add-zero)
+up-down (suc a) (x ∷ v) = ap (λ w. x ∷ w) (up-down a v)
 
 -- ---- masks added to a vertex
 pub plus-zero : (c : Vertex) → plus c 0 ≡ c
@@ -62,10 +45,6 @@ plus-bit zero m (x ∷ c) z =
     rw (odd, half, even, add-zero x)
 plus-bit (suc a) m (x ∷ c) z = rw (parity-add, half-add, plus-bit a (m / 2) c z)
 
--- a mask with one axis more adds one more on that axis
-pub plus-axis : (a m : ℕ) (c : Vertex) → m / 2 ^ a % 2 ≡ 0 → plus c (m + 2 ^ a) ≡ up a (plus c m)
-plus-axis a m c z = plus-bit a m c (bit-is a m ∙ z)
-
 -- each axis of a list is free in a mask
 abbrev Free : ℕ → List ℕ → Type 0
 Free m [] = Unit
@@ -78,7 +57,7 @@ free-zero (a ∷ o) = (bit-zero a, free-zero o)
 free-add : (a m : ℕ) (o : List ℕ) → bit a m ≡ 0 → absent a o ≡ true → Free m o → Free (m + 2 ^ a) o
 free-add a m [] z e f = tt
 free-add a m (b ∷ o) z e f =
-    (bit-add-other a b m (absent-head a b o e) z ∙ f .0, free-add a m o z (absent-tail a b o e) (f .1))
+    (bit-add-other b a m (λ q. absent-head a b o e (sym q)) z ∙ f .0, free-add a m o z (absent-tail a b o e) (f .1))
 
 -- ---- the vertices of a simplex
 vertices-plus : (m : ℕ) (c : Vertex) (o : List ℕ) → distinct o ≡ true → Free m o → vertices (plus c m) o ≡ plus c m ∷ map (plus c) (masksFrom m o)
@@ -91,19 +70,13 @@ vertices-plus m c (a ∷ o) d f =
 pub vertices-masks : (c : Vertex) (o : List ℕ) → distinct o ≡ true → vertices c o ≡ c ∷ map (plus c) (masksFrom 0 o)
 vertices-masks c o d = rw plus-zero at (vertices-plus 0 c o d (free-zero o))
 
-pub map-remove : {A B : Type 0} (f : A → B) (i : ℕ) (xs : List A) → map f (remove i xs) ≡ remove i (map f xs)
-unfolding remove
-map-remove f i [] = refl
-map-remove f zero (x ∷ xs) = refl
-map-remove f (suc i) (x ∷ xs) = ap (λ l. f x ∷ l) (map-remove f i xs)
-
 facet-vertices-distinct : (c : Vertex) (o : List ℕ) (i : ℕ) → distinct o ≡ true → 0 < length o →
     facetVertices (placeAt c o i .facet) ≡ remove i (vertices c o)
 unfolding facetVertices placeAt remove vertices
 facet-vertices-distinct c [] i d p = absurd (omega arith)
 facet-vertices-distinct c (a ∷ o) zero d p = sym (vertices-masks (up a c) o (distinct-tail a o d))
 facet-vertices-distinct c (a ∷ o) (suc i) d p =
-    ap (λ l. c ∷ l) (map-remove (plus c) i (masksFrom 0 (a ∷ o))) ∙ sym (ap (remove (suc i)) (vertices-masks c (a ∷ o) d))
+    ap (λ l. c ∷ l) (sym (remove-map (plus c) i (masksFrom 0 (a ∷ o)))) ∙ sym (ap (remove (suc i)) (vertices-masks c (a ∷ o) d))
 
 -- the vertices of a simplex's facet are those of the simplex without the one left out
 pub facet-vertices : (n : ℕ) (c : Vertex) (o : List ℕ) (i : ℕ) → isOrder n o ≡ true → 0 < n →

@@ -2,7 +2,7 @@
 use mathlib.Core.Path.{_≡_, refl, sym, _∙_, ap}
 use mathlib.Core.Bool.{Bool}
 use mathlib.Core.Logic.{_⊎_, inl, inr, ⊎-elim}
-use mathlib.Core.List.{map, Memᴰ·of-map, Memᴰ·map, Memᴰ·cast}
+use mathlib.Core.List.{List, map, Memᴰ·of-map, Memᴰ·map, Memᴰ·cast}
 use Rattle.curves.specs.Walk.{Next, go, Verdict, loop, stopped, full, Trace}
 use Rattle.curves.specs.Curve.{_∈_, Joined}
 use Rattle.curves.specs.WalkGrid.{Grid}
@@ -72,18 +72,20 @@ module _
       (inl (traced-first mt))
       (λ p y op i e. ⊎-elim (inFirst p y op e) (inSecond p y op e) i)
     where
-      inFirst :
-          (p y : P) → Ok p → step p ≡ go y → facet p ∈ map facet (t .places) →
+      -- a step from a facet of the list leads to a facet of one of the two traces
+      Leads : List P → Type 0
+      Leads l =
+          (p y : P) → Ok p → step p ≡ go y → facet p ∈ map facet l →
           (facet y ∈ map facet (t .places)) ⊎ (facet y ∈ map facet (b .places))
+
+      inFirst : Leads (t .places)
       inFirst p y op e i =
           ⊎-elim
           (λ j. inl j)
           (λ (h : p ≡ turn s). inr (traced-next mb nb (run-first (mb .run)) (ap step (sym h) ∙ e)))
           (traced-step o mt nt op i e)
 
-      inSecond :
-          (p y : P) → Ok p → step p ≡ go y → facet p ∈ map facet (b .places) →
-          (facet y ∈ map facet (t .places)) ⊎ (facet y ∈ map facet (b .places))
+      inSecond : Leads (b .places)
       inSecond p y op e i =
           ⊎-elim
           (λ j. inr j)

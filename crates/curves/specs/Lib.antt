@@ -7,3 +7,4 @@ pub mod Joined
 pub mod WalkGrid
 pub mod WalkRun
 pub mod WalkDemand
+pub mod GridDemand

@@ -1,0 +1,228 @@
+//! The C interface of the proved library, and a safe wrapper that gives its answers as the
+//! reference gives them. Everything that depends on how the answers are handed over is here.
+//!
+//! Conventions, all checked by the wrapper: refusal 0 is none; beside a refusal every other
+//! field is 0; a field for an axis above n is 0; a field that the answer does not use is 0.
+
+use reference::grid::{Facet, Place};
+use reference::operations::{Move, Step, Verdict};
+use reference::product::Product;
+
+#[repr(C)]
+#[derive(Clone, Copy, PartialEq, Debug)]
+struct OpenAnswer {
+    refusal: u64,
+    n: u64,
+    terms1: u64,
+    terms2: u64,
+}
+
+#[repr(C)]
+#[derive(Clone, Copy, PartialEq, Debug)]
+struct BodyAnswer {
+    refusal: u64,
+    offset: u64,
+    length: u64,
+}
+
+#[repr(C)]
+#[derive(Clone, Copy, PartialEq, Debug)]
+struct JudgeAnswer {
+    refusal: u64,
+    crossed: u64,
+}
+
+#[repr(C)]
+#[derive(Clone, Copy, PartialEq, Debug)]
+struct PointAnswer {
+    refusal: u64,
+    x: i64,
+    y: i64,
+    z: i64,
+}
+
+#[repr(C)]
+#[derive(Clone, Copy, PartialEq, Debug)]
+struct StepAnswer {
+    refusal: u64,
+    outcome: u64,
+    x: i64,
+    y: i64,
+    z: i64,
+    mask1: u64,
+    mask2: u64,
+    side: u64,
+}
+
+#[repr(C)]
+#[derive(Clone, Copy, PartialEq, Debug)]
+struct TraceAnswer {
+    refusal: u64,
+    verdict: u64,
+    count: u64,
+}
+
+#[repr(C)]
+#[derive(Clone, Copy, PartialEq, Debug)]
+struct PenAnswer {
+    refusal: u64,
+    kind: u64,
+    x: f64,
+    y: f64,
+    z: f64,
+}
+
+extern "C" {
+    fn gethwapiko_open(job: *const u8, job_len: usize) -> OpenAnswer;
+    fn gethwapiko_body(job: *const u8, job_len: usize, index: u64) -> BodyAnswer;
+    fn gethwapiko_judge(
+        job: *const u8,
+        job_len: usize,
+        place: *const u8,
+        place_len: usize,
+    ) -> JudgeAnswer;
+    fn gethwapiko_point(
+        job: *const u8,
+        job_len: usize,
+        place: *const u8,
+        place_len: usize,
+    ) -> PointAnswer;
+    fn gethwapiko_step(
+        job: *const u8,
+        job_len: usize,
+        place: *const u8,
+        place_len: usize,
+    ) -> StepAnswer;
+    fn gethwapiko_trace(
+        job: *const u8,
+        job_len: usize,
+        buffer: *mut u8,
+        buffer_len: usize,
+    ) -> TraceAnswer;
+    fn gethwapiko_pen(
+        job: *const u8,
+        job_len: usize,
+        places: *const u8,
+        places_len: usize,
+        closed: u8,
+        k: u64,
+    ) -> PenAnswer;
+}
+
+/// The refusal, if there is one, with the rest of the answer checked to be 0.
+fn refused(refusal: u64, rest_is_zero: bool) -> Result<(), u8> {
+    if refusal == 0 {
+        return Ok(());
+    }
+    assert!(rest_is_zero, "a refusal's other fields are 0");
+    Err(u8::try_from(refusal).expect("a refusal number"))
+}
+
+/// A field that is 0 or 1.
+fn mark(field: u64) -> bool {
+    assert!(field <= 1, "0 or 1");
+    field == 1
+}
+
+/// The dimension of a job that opens.
+fn dimension(job: &[u8]) -> usize {
+    job[1] as usize
+}
+
+/// The proved library.
+pub struct Library;
+
+// Each function is marked inline so that a test program holds the calls that it makes and no
+// others: while the library is built in stages, a test of an operation that is there links.
+impl Product for Library {
+    #[inline]
+    fn open(&self, job: &[u8]) -> Result<(usize, Vec<usize>), u8> {
+        let a = unsafe { gethwapiko_open(job.as_ptr(), job.len()) };
+        refused(a.refusal, (a.n, a.terms1, a.terms2) == (0, 0, 0))?;
+        let mut counts = vec![a.terms1 as usize];
+        if a.n == 2 {
+            assert_eq!(a.terms2, 0);
+        } else {
+            counts.push(a.terms2 as usize);
+        }
+        Ok((a.n as usize, counts))
+    }
+
+    #[inline]
+    fn body(&self, job: &[u8], index: u64) -> Result<(usize, usize), u8> {
+        let a = unsafe { gethwapiko_body(job.as_ptr(), job.len(), index) };
+        refused(a.refusal, (a.offset, a.length) == (0, 0))?;
+        Ok((a.offset as usize, a.length as usize))
+    }
+
+    #[inline]
+    fn judge(&self, job: &[u8], place: &[u8]) -> Result<bool, u8> {
+        let a = unsafe { gethwapiko_judge(job.as_ptr(), job.len(), place.as_ptr(), place.len()) };
+        refused(a.refusal, a.crossed == 0)?;
+        Ok(mark(a.crossed))
+    }
+
+    #[inline]
+    fn point(&self, job: &[u8], place: &[u8]) -> Result<[i64; 3], u8> {
+        let a = unsafe { gethwapiko_point(job.as_ptr(), job.len(), place.as_ptr(), place.len()) };
+        refused(a.refusal, (a.x, a.y, a.z) == (0, 0, 0))?;
+        Ok([a.x, a.y, a.z])
+    }
+
+    #[inline]
+    fn step(&self, job: &[u8], place: &[u8]) -> Result<Step, u8> {
+        let a = unsafe { gethwapiko_step(job.as_ptr(), job.len(), place.as_ptr(), place.len()) };
+        let no_place = (a.x, a.y, a.z, a.mask1, a.mask2, a.side) == (0, 0, 0, 0, 0, 0);
+        refused(a.refusal, a.outcome == 0 && no_place)?;
+        match a.outcome {
+            0 => {
+                let n = dimension(job);
+                let masks = [a.mask1, a.mask2].map(|m| u8::try_from(m).expect("a mask"));
+                let facet = Facet { n, lowest: [a.x, a.y, a.z], masks };
+                assert!(n == 3 || (a.z, a.mask2) == (0, 0));
+                Ok(Step::Next(Place { facet, side: mark(a.side) as u8 }))
+            }
+            1 | 2 => {
+                assert!(no_place);
+                Ok(if a.outcome == 1 { Step::Edge } else { Step::Limit })
+            }
+            _ => panic!("no outcome {}", a.outcome),
+        }
+    }
+
+    #[inline]
+    fn trace(&self, job: &[u8], buffer: &mut [u8]) -> Result<(Verdict, usize), u8> {
+        let a =
+            unsafe { gethwapiko_trace(job.as_ptr(), job.len(), buffer.as_mut_ptr(), buffer.len()) };
+        refused(a.refusal, (a.verdict, a.count) == (0, 0))?;
+        let verdict = match a.verdict {
+            0 => Verdict::Loop,
+            1 => Verdict::Edge,
+            2 => Verdict::Limit,
+            3 => Verdict::Full,
+            _ => panic!("no verdict {}", a.verdict),
+        };
+        Ok((verdict, a.count as usize))
+    }
+
+    #[inline]
+    fn pen(&self, job: &[u8], places: &[u8], closed: bool, k: u64) -> Result<Move, u8> {
+        // Any number but 0 is a mark that is set.
+        let closed = if closed { [1, 2, 255][k as usize % 3] } else { 0 };
+        let a = unsafe {
+            gethwapiko_pen(job.as_ptr(), job.len(), places.as_ptr(), places.len(), closed, k)
+        };
+        let at_zero = [a.x, a.y, a.z].iter().all(|x| x.to_bits() == 0);
+        refused(a.refusal, a.kind == 0 && at_zero)?;
+        // The floats are handed on as they are, so that a test can compare their bits.
+        Ok(match a.kind {
+            0 => Move::Lift([a.x, a.y, a.z]),
+            1 => Move::Draw([a.x, a.y, a.z]),
+            2 => {
+                assert!(at_zero);
+                Move::Close
+            }
+            _ => panic!("no move {}", a.kind),
+        })
+    }
+}

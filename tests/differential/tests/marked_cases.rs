@@ -1,0 +1,14 @@
+//! Cases A to J and the wrong turns on the proved library.
+
+use library::ffi::Library;
+use reference::marked;
+
+#[test]
+fn cases_a_to_j() {
+    marked::cases(&Library);
+}
+
+#[test]
+fn wrong_turns() {
+    marked::wrong_turns(&Library);
+}

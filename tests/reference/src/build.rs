@@ -1,0 +1,127 @@
+//! Jobs from their parts, for tests and tools: contents first, then bodies.
+
+use crate::crossed::Term;
+use crate::grid::{Facet, Place};
+use crate::job::Job;
+
+/// The parts of a job.
+#[derive(Clone, Debug)]
+pub struct Parts {
+    pub n: usize,
+    pub ends: Vec<(i64, i64)>,
+    pub polynomials: Vec<Vec<Term>>,
+    pub start: Place,
+}
+
+/// A term of coefficient and exponents for axes 1 to 3.
+pub fn term(coefficient: i64, x: u8, y: u8, z: u8) -> Term {
+    Term { coefficient, exponents: [x, y, z, 0] }
+}
+
+/// Like terms gathered, zeros left out, in rising order.
+pub fn gathered(terms: &[Term]) -> Vec<Term> {
+    let mut all: Vec<Term> = Vec::new();
+    for t in terms {
+        match all.iter_mut().find(|u| u.exponents == t.exponents) {
+            Some(u) => u.coefficient += t.coefficient,
+            None => all.push(*t),
+        }
+    }
+    all.retain(|t| t.coefficient != 0);
+    all.sort_by_key(|t| t.exponents);
+    all
+}
+
+/// The product of two polynomials.
+pub fn product(a: &[Term], b: &[Term]) -> Vec<Term> {
+    let mut all = Vec::new();
+    for s in a {
+        for t in b {
+            let mut exponents = s.exponents;
+            for k in 0..4 {
+                exponents[k] += t.exponents[k];
+            }
+            all.push(Term { coefficient: s.coefficient * t.coefficient, exponents });
+        }
+    }
+    gathered(&all)
+}
+
+/// A place of the first n coordinates and n - 1 masks given.
+pub fn place(n: usize, lowest: [i64; 3], masks: [u8; 2], side: u8) -> Place {
+    Place { facet: Facet { n, lowest, masks }, side }
+}
+
+impl Parts {
+    /// The bodies of the job. Numbers that do not fit their field are cut to it.
+    pub fn bodies(&self) -> Vec<Vec<u8>> {
+        let mut bodies: Vec<Vec<u8>> = Vec::new();
+        let mut ends = Vec::new();
+        for &(low, high) in &self.ends {
+            ends.extend_from_slice(&(low as i16).to_le_bytes());
+            ends.extend_from_slice(&(high as i16).to_le_bytes());
+        }
+        bodies.push(ends);
+        for polynomial in &self.polynomials {
+            let mut body = Vec::new();
+            for t in polynomial {
+                body.extend_from_slice(&(t.coefficient as i32).to_le_bytes());
+                body.extend_from_slice(&t.exponents);
+            }
+            bodies.push(body);
+        }
+        bodies.push(self.start.bytes());
+        bodies
+    }
+
+    /// The bytes of the job.
+    pub fn bytes(&self) -> Vec<u8> {
+        assemble(self.n, &self.bodies())
+    }
+
+    /// The parts as Open would find them, for judging facets before the start is chosen.
+    pub fn opened(&self) -> Job {
+        Job {
+            n: self.n,
+            bodies: Vec::new(),
+            ends: self.ends.clone(),
+            polynomials: self.polynomials.clone(),
+            start: self.start,
+        }
+    }
+}
+
+/// Contents and then the bodies; offsets and lengths are cut to 16 bits.
+pub fn assemble(n: usize, bodies: &[Vec<u8>]) -> Vec<u8> {
+    let mut out = vec![1, n as u8, n as u8 + 1, 0];
+    let mut offset = 4 + 4 * bodies.len();
+    for body in bodies {
+        out.extend_from_slice(&(offset as u16).to_le_bytes());
+        out.extend_from_slice(&(body.len() as u16).to_le_bytes());
+        offset += body.len();
+    }
+    for body in bodies {
+        out.extend_from_slice(body);
+    }
+    out
+}
+
+/// Case A of the paper.
+pub fn case_a() -> Parts {
+    Parts {
+        n: 2,
+        ends: vec![(-1, 1), (-1, 1)],
+        polynomials: vec![vec![term(-1, 0, 0, 0), term(2, 0, 2, 0), term(2, 2, 0, 0)]],
+        start: place(2, [0, 0, 0], [1, 0], 0),
+    }
+}
+
+/// Case C of the paper.
+pub fn case_c() -> Parts {
+    Parts {
+        n: 3,
+        ends: vec![(0, 1), (0, 1), (0, 1)],
+        polynomials: vec![vec![term(1, 1, 0, 0)], vec![term(1, 0, 1, 0)]],
+        start: place(3, [0, 0, 0], [1, 3], 0),
+    }
+}

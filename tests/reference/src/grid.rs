@@ -1,0 +1,329 @@
+//! "The grid": masks, vertices, simplices, facets, places.
+
+/// The largest dimension of the paper.
+pub const MOST: usize = 3;
+
+/// Whole coordinates by axis; entries above axis n are 0.
+pub type Vertex = [i64; MOST];
+
+/// Whether the mask has the axis (axes are numbered from 1).
+pub fn has(mask: u8, axis: usize) -> bool {
+    mask >> (axis - 1) & 1 == 1
+}
+
+/// The vertex that lies by the mask above `lowest`.
+pub fn above(lowest: &Vertex, mask: u8) -> Vertex {
+    let mut v = *lowest;
+    for axis in 1..=MOST {
+        if has(mask, axis) {
+            v[axis - 1] += 1;
+        }
+    }
+    v
+}
+
+/// The orders of the axes, for n = 2.
+pub const ORDERS_2: [&[usize]; 2] = [&[1, 2], &[2, 1]];
+
+/// The orders of the axes, for n = 3.
+pub const ORDERS_3: [&[usize]; 6] =
+    [&[1, 2, 3], &[1, 3, 2], &[2, 1, 3], &[2, 3, 1], &[3, 1, 2], &[3, 2, 1]];
+
+/// The fixed table of orders.
+pub fn orders(n: usize) -> &'static [&'static [usize]] {
+    match n {
+        2 => &ORDERS_2,
+        3 => &ORDERS_3,
+        _ => panic!("no table of orders for this dimension"),
+    }
+}
+
+/// A corner and an order of the n axes.
+#[derive(Clone, Copy, PartialEq, Eq, Hash, Debug)]
+pub struct Simplex {
+    pub corner: Vertex,
+    pub order: &'static [usize],
+}
+
+impl Simplex {
+    pub fn n(&self) -> usize {
+        self.order.len()
+    }
+
+    /// v0 .. vn (the first n + 1 entries): each later vertex adds 1 on the next axis.
+    pub fn vertices(&self) -> [Vertex; MOST + 1] {
+        let mut all = [self.corner; MOST + 1];
+        for i in 1..=self.n() {
+            all[i] = all[i - 1];
+            all[i][self.order[i - 1] - 1] += 1;
+        }
+        all
+    }
+
+    /// The simplex without vertex i.
+    pub fn facet(&self, i: usize) -> Facet {
+        let n = self.n();
+        let all = self.vertices();
+        let left = |k: usize| if k < i { all[k] } else { all[k + 1] };
+        let lowest = left(0);
+        let mut masks = [0u8; MOST - 1];
+        for k in 1..n {
+            for axis in 1..=n {
+                match left(k)[axis - 1] - lowest[axis - 1] {
+                    0 => {}
+                    1 => masks[k - 1] |= 1 << (axis - 1),
+                    _ => panic!("a vertex more than 1 above the lowest"),
+                }
+            }
+        }
+        Facet { n, lowest, masks }
+    }
+}
+
+/// A lowest vertex and n - 1 masks (the first n - 1 entries; the others are 0).
+#[derive(Clone, Copy, PartialEq, Eq, Hash, PartialOrd, Ord, Debug)]
+pub struct Facet {
+    pub n: usize,
+    pub lowest: Vertex,
+    pub masks: [u8; MOST - 1],
+}
+
+/// Each mask is non-zero and strictly holds the one before; bits for axes above n are 0.
+pub fn is_chain(n: usize, masks: &[u8]) -> bool {
+    let mut before = 0u8;
+    for &mask in masks {
+        let bits_of_axes = mask >> n == 0;
+        let holds = mask & before == before && mask != before;
+        if !bits_of_axes || mask == 0 || !holds {
+            return false;
+        }
+        before = mask;
+    }
+    true
+}
+
+impl Facet {
+    /// w0 .. w(n-1) (the first n entries).
+    pub fn vertices(&self) -> [Vertex; MOST] {
+        let mut all = [self.lowest; MOST];
+        for i in 1..self.n {
+            all[i] = above(&self.lowest, self.masks[i - 1]);
+        }
+        all
+    }
+
+    /// The mask of vertex i; 0 for the lowest.
+    pub fn mask(&self, i: usize) -> u8 {
+        if i == 0 {
+            0
+        } else {
+            self.masks[i - 1]
+        }
+    }
+
+    /// The last mask has n - 1 ones (flat) or n ones (bent).
+    pub fn is_flat(&self) -> bool {
+        self.masks[self.n - 2].count_ones() as usize == self.n - 1
+    }
+
+    /// Every simplex that has this facet, with the index of the vertex that it has besides:
+    /// found by looking at all simplices whose corner is the lowest vertex or 1 below it on
+    /// one axis.
+    pub fn simplices(&self) -> Vec<(Simplex, usize)> {
+        let own = self.vertices();
+        let mut found = Vec::with_capacity(2);
+        for lower in 0..=self.n {
+            let mut corner = self.lowest;
+            if lower > 0 {
+                corner[lower - 1] -= 1;
+            }
+            for order in orders(self.n) {
+                let simplex = Simplex { corner, order };
+                let all = simplex.vertices();
+                for i in 0..=self.n {
+                    // The simplex without vertex i has the vertices of this facet.
+                    if (0..self.n).all(|k| all[if k < i { k } else { k + 1 }] == own[k]) {
+                        found.push((simplex, i));
+                    }
+                }
+            }
+        }
+        found
+    }
+}
+
+/// A facet with a side.
+#[derive(Clone, Copy, PartialEq, Eq, Hash, PartialOrd, Ord, Debug)]
+pub struct Place {
+    pub facet: Facet,
+    pub side: u8,
+}
+
+/// The side on which a simplex lies of its facet without vertex i.
+fn side_of(simplex: &Simplex, i: usize) -> u8 {
+    let n = simplex.n();
+    if simplex.facet(i).is_flat() {
+        // Side 0: the extra vertex is the highest; side 1: it is the lowest.
+        if i == n {
+            0
+        } else if i == 0 {
+            1
+        } else {
+            panic!("a flat facet leaves out the first or the last vertex")
+        }
+    } else {
+        // Side 0 adds the lower-numbered of the two axes first; side 1 the higher.
+        let first = simplex.order[i - 1];
+        let second = simplex.order[i];
+        if first < second {
+            0
+        } else {
+            1
+        }
+    }
+}
+
+impl Place {
+    /// The same facet with the other side.
+    pub fn turned(&self) -> Place {
+        Place { facet: self.facet, side: 1 - self.side }
+    }
+
+    /// The simplex on the place's side, with the index of its extra vertex.
+    pub fn simplex(&self) -> (Simplex, usize) {
+        let mut found = None;
+        for (simplex, i) in self.facet.simplices() {
+            if side_of(&simplex, i) == self.side {
+                assert!(found.is_none(), "two simplices on one side");
+                found = Some((simplex, i));
+            }
+        }
+        found.expect("a simplex on each side")
+    }
+
+    /// The place of a facet of `simplex` (the one without vertex i) whose side leads out of it.
+    pub fn out_of(simplex: &Simplex, i: usize) -> Place {
+        Place { facet: simplex.facet(i), side: 1 - side_of(simplex, i) }
+    }
+
+    /// 3n bytes: n signed 16-bit coordinates, n - 1 masks, the side.
+    pub fn bytes(&self) -> Vec<u8> {
+        let n = self.facet.n;
+        let mut out = Vec::with_capacity(3 * n);
+        for axis in 1..=n {
+            let x = i16::try_from(self.facet.lowest[axis - 1]).expect("a 16-bit coordinate");
+            out.extend_from_slice(&x.to_le_bytes());
+        }
+        out.extend_from_slice(&self.facet.masks[..n - 1]);
+        out.push(self.side);
+        out
+    }
+
+    /// Reads a place; none if it is not 3n bytes or its chain or side is malformed.
+    pub fn read(n: usize, bytes: &[u8]) -> Option<Place> {
+        if bytes.len() != 3 * n {
+            return None;
+        }
+        let mut lowest = [0i64; MOST];
+        for axis in 1..=n {
+            let at = 2 * (axis - 1);
+            lowest[axis - 1] = i16::from_le_bytes([bytes[at], bytes[at + 1]]) as i64;
+        }
+        let chain = &bytes[2 * n..3 * n - 1];
+        let side = bytes[3 * n - 1];
+        if !is_chain(n, chain) || side > 1 {
+            return None;
+        }
+        let mut masks = [0u8; MOST - 1];
+        masks[..n - 1].copy_from_slice(chain);
+        Some(Place { facet: Facet { n, lowest, masks }, side })
+    }
+}
+
+/// Every chain of n - 1 masks that a facet can have (the test below looks for others).
+pub fn chains(n: usize) -> &'static [[u8; MOST - 1]] {
+    match n {
+        2 => &[[1, 0], [2, 0], [3, 0]],
+        3 => &[
+            [1, 3],
+            [1, 5],
+            [1, 7],
+            [2, 3],
+            [2, 6],
+            [2, 7],
+            [3, 7],
+            [4, 5],
+            [4, 6],
+            [4, 7],
+            [5, 7],
+            [6, 7],
+        ],
+        _ => panic!("no chains for this dimension"),
+    }
+}
+
+#[cfg(test)]
+mod tests {
+    use super::*;
+
+    /// Each facet has two simplices, one on each side, and the second is the first with one
+    /// vertex replaced by the P rule, indices modulo n + 1.
+    #[test]
+    fn two_sides_by_the_p_rule() {
+        for n in 2..=3 {
+            for &masks in chains(n) {
+                let facet = Facet { n, lowest: [5, -3, 0], masks };
+                assert_eq!(facet.simplices().len(), 2);
+                for side in 0..2 {
+                    let place = Place { facet, side };
+                    let (simplex, i) = place.simplex();
+                    assert_eq!(Place::out_of(&simplex, i), place.turned());
+                    let s = simplex.vertices();
+                    let before = s[(i + n) % (n + 1)];
+                    let after = s[(i + 1) % (n + 1)];
+                    let mut new = [0i64; MOST];
+                    for a in 0..MOST {
+                        new[a] = before[a] + after[a] - s[i][a];
+                    }
+                    let (other, k) = place.turned().simplex();
+                    assert_eq!(other.vertices()[k], new);
+                }
+            }
+        }
+    }
+
+    /// The three cases of the neighbour, in the words of the paper.
+    #[test]
+    fn neighbours_by_order() {
+        for n in 2..=3usize {
+            for &order in orders(n) {
+                let simplex = Simplex { corner: [4, 7, if n == 3 { -2 } else { 0 }], order };
+                for i in 0..=n {
+                    let (next, _) = Place::out_of(&simplex, i).simplex();
+                    let mut corner = simplex.corner;
+                    let mut axes = order.to_vec();
+                    if i == 0 {
+                        corner[axes[0] - 1] += 1;
+                        axes.rotate_left(1);
+                    } else if i == n {
+                        corner[axes[n - 1] - 1] -= 1;
+                        axes.rotate_right(1);
+                    } else {
+                        axes.swap(i - 1, i);
+                    }
+                    assert_eq!((next.corner, next.order.to_vec()), (corner, axes));
+                }
+            }
+        }
+    }
+
+    #[test]
+    fn chains_are_all() {
+        let all = |n: usize| -> Vec<[u8; 2]> {
+            let pairs = (0..=255u8).flat_map(|a| (0..=255u8).map(move |b| [a, b]));
+            pairs.filter(|m| is_chain(n, &m[..n - 1]) && (n == 3 || m[1] == 0)).collect()
+        };
+        assert_eq!(chains(2), all(2));
+        assert_eq!(chains(3), all(3));
+    }
+}

@@ -1,0 +1,224 @@
+//! "Operations and what they turn down". Each opens the job first; its own refusals are
+//! tested in the order written. A refusal is its number alone and no buffer is touched.
+
+use crate::crossed::{self, column, is_crossed, is_readable, Column};
+use crate::grid::{Facet, Place, Simplex, Vertex, MOST};
+use crate::job::{open, Job};
+
+/// **Body.** The part of the job that holds the body, as offset and length.
+pub fn body(job: &[u8], index: u64) -> Result<(usize, usize), u8> {
+    let opened = open(job)?;
+    if index >= opened.n as u64 + 1 {
+        return Err(12);
+    }
+    Ok(opened.bodies[index as usize])
+}
+
+fn in_box(job: &Job, v: &Vertex) -> bool {
+    job.ends.iter().enumerate().all(|(k, &(low, high))| low <= v[k] && v[k] <= high)
+}
+
+fn column_is_readable(n: usize, column: &Column) -> bool {
+    column[1..n].iter().all(|&value| is_readable(value))
+}
+
+/// 9 a vertex outside the box; 10 a vertex value not readable; else the columns of the facet.
+fn columns(job: &Job, facet: &Facet) -> Result<[Column; MOST], u8> {
+    let vertices = facet.vertices();
+    if !vertices[..job.n].iter().all(|v| in_box(job, v)) {
+        return Err(9);
+    }
+    let mut columns = [[0i128; MOST]; MOST];
+    for i in 0..job.n {
+        columns[i] = column(&job.polynomials, &vertices[i]);
+    }
+    if !columns[..job.n].iter().all(|c| column_is_readable(job.n, c)) {
+        return Err(10);
+    }
+    Ok(columns)
+}
+
+/// 9, 10, then 11 not crossed.
+fn crossed_columns(job: &Job, facet: &Facet) -> Result<[Column; MOST], u8> {
+    let columns = columns(job, facet)?;
+    if !is_crossed(&columns[..job.n]) {
+        return Err(11);
+    }
+    Ok(columns)
+}
+
+/// Whether the facet is in the box with readable values and crossed.
+pub fn facet_is_crossed(job: &Job, facet: &Facet) -> bool {
+    crossed_columns(job, facet).is_ok()
+}
+
+/// **Judge.** 13, 9, 10; else crossed or not.
+pub fn judge(job: &[u8], place: &[u8]) -> Result<bool, u8> {
+    let job = open(job)?;
+    let place = Place::read(job.n, place).ok_or(13)?;
+    let columns = columns(&job, &place.facet)?;
+    Ok(is_crossed(&columns[..job.n]))
+}
+
+fn point_of(job: &Job, facet: &Facet) -> Result<[i64; MOST], u8> {
+    let columns = crossed_columns(job, facet)?;
+    Ok(crossed::point(facet, &columns[..job.n]))
+}
+
+/// **Point.** 13, 9, 10, then 11 not crossed; else the coordinates in steps of 1/1024.
+pub fn point(job: &[u8], place: &[u8]) -> Result<[i64; MOST], u8> {
+    let job = open(job)?;
+    let place = Place::read(job.n, place).ok_or(13)?;
+    point_of(&job, &place.facet)
+}
+
+#[derive(Clone, Copy, PartialEq, Eq, Debug)]
+pub enum Step {
+    Next(Place),
+    Edge,
+    Limit,
+}
+
+/// What a simplex is to Step: with a vertex outside the box, in the box and not readable,
+/// or readable, with its crossed facets by the vertex left out.
+pub enum Look {
+    Outside,
+    Unreadable,
+    Readable(Vec<usize>),
+}
+
+/// Looks at a simplex.
+pub fn look(job: &Job, simplex: &Simplex) -> Look {
+    let n = job.n;
+    let vertices = simplex.vertices();
+    if !vertices[..=n].iter().all(|v| in_box(job, v)) {
+        return Look::Outside;
+    }
+    let mut columns = [[0i128; MOST]; MOST + 1];
+    for i in 0..=n {
+        columns[i] = column(&job.polynomials, &vertices[i]);
+    }
+    if !columns[..=n].iter().all(|c| column_is_readable(n, c)) {
+        return Look::Unreadable;
+    }
+    let is_crossed_without = |i: usize| {
+        let mut facet = [[0i128; MOST]; MOST];
+        for k in 0..n {
+            facet[k] = columns[if k < i { k } else { k + 1 }];
+        }
+        is_crossed(&facet[..n])
+    };
+    Look::Readable((0..=n).filter(|&i| is_crossed_without(i)).collect())
+}
+
+/// The simplex on the place's side: edge, limit, or the place of its other crossed facet,
+/// its side leading onward.
+fn onward(job: &Job, place: &Place) -> Step {
+    let (simplex, extra) = place.simplex();
+    match look(job, &simplex) {
+        Look::Outside => Step::Edge,
+        Look::Unreadable => Step::Limit,
+        Look::Readable(crossed) => {
+            let others: Vec<usize> = crossed.into_iter().filter(|&i| i != extra).collect();
+            assert_eq!(others.len(), 1, "exactly one other crossed facet");
+            Step::Next(Place::out_of(&simplex, others[0]))
+        }
+    }
+}
+
+/// **Step.** 13, 9, 10, 11; else what lies on the place's side.
+pub fn step(job: &[u8], place: &[u8]) -> Result<Step, u8> {
+    let job = open(job)?;
+    let place = Place::read(job.n, place).ok_or(13)?;
+    crossed_columns(&job, &place.facet)?;
+    Ok(onward(&job, &place))
+}
+
+#[derive(Clone, Copy, PartialEq, Eq, Hash, Debug)]
+pub enum Verdict {
+    Loop,
+    Edge,
+    Limit,
+    Full,
+}
+
+impl Verdict {
+    pub fn word(&self) -> &'static str {
+        match self {
+            Verdict::Loop => "loop",
+            Verdict::Edge => "edge",
+            Verdict::Limit => "limit",
+            Verdict::Full => "full",
+        }
+    }
+}
+
+/// The trace of an opened job as verdict and places, with space for `space` of them.
+pub fn trace_places(job: &Job, space: usize) -> Result<(Verdict, Vec<Place>), u8> {
+    crossed_columns(job, &job.start.facet)?;
+    let mut places = Vec::new();
+    let mut next = job.start;
+    loop {
+        if places.len() == space {
+            return Ok((Verdict::Full, places));
+        }
+        places.push(next);
+        match onward(job, &next) {
+            Step::Edge => return Ok((Verdict::Edge, places)),
+            Step::Limit => return Ok((Verdict::Limit, places)),
+            Step::Next(place) if place.facet == job.start.facet => {
+                return Ok((Verdict::Loop, places))
+            }
+            Step::Next(place) => next = place,
+        }
+    }
+}
+
+/// **Trace.** 9, 10, 11 for the job's start; else places one after another in the buffer, and
+/// verdict and count. Bytes past the last place written keep their values.
+pub fn trace(job: &[u8], buffer: &mut [u8]) -> Result<(Verdict, usize), u8> {
+    let job = open(job)?;
+    let size = 3 * job.n;
+    let (verdict, places) = trace_places(&job, buffer.len() / size)?;
+    for (k, place) in places.iter().enumerate() {
+        buffer[size * k..size * (k + 1)].copy_from_slice(&place.bytes());
+    }
+    Ok((verdict, places.len()))
+}
+
+/// The same job with that place as its start.
+pub fn with_start(job: &[u8], place: &Place) -> Vec<u8> {
+    let bytes = place.bytes();
+    let mut out = job.to_vec();
+    let at = out.len() - bytes.len();
+    out[at..].copy_from_slice(&bytes);
+    out
+}
+
+#[derive(Clone, Copy, PartialEq, Debug)]
+pub enum Move {
+    Lift([f64; 3]),
+    Draw([f64; 3]),
+    Close,
+}
+
+/// **Pen.** Places, a closed mark and an index k.
+pub fn pen(job: &[u8], places: &[u8], closed: bool, k: u64) -> Result<Move, u8> {
+    let job = open(job)?;
+    let size = 3 * job.n;
+    if places.len() % size != 0 {
+        return Err(13);
+    }
+    let m = (places.len() / size) as u64;
+    if k == m && m > 0 && closed {
+        return Ok(Move::Close);
+    }
+    if k >= m {
+        return Err(12);
+    }
+    let at = size * k as usize;
+    let place = Place::read(job.n, &places[at..at + size]).ok_or(13)?;
+    let steps = point_of(&job, &place.facet)?;
+    let millimetres = [0, 1, 2].map(|axis: usize| steps[axis] as f64 / 1024.0);
+    Ok(if k == 0 { Move::Lift(millimetres) } else { Move::Draw(millimetres) })
+}

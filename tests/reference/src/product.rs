@@ -1,0 +1,46 @@
+//! The operations as one table of functions, so that a test can be run on the reference and
+//! on the proved library alike.
+
+use crate::job;
+use crate::operations::{self, Move, Step, Verdict};
+
+/// Everything the product answers. A refusal is its number.
+pub trait Product {
+    /// n and each polynomial's count of terms.
+    fn open(&self, job: &[u8]) -> Result<(usize, Vec<usize>), u8>;
+    /// Offset and length of the part of the job that holds the body.
+    fn body(&self, job: &[u8], index: u64) -> Result<(usize, usize), u8>;
+    fn judge(&self, job: &[u8], place: &[u8]) -> Result<bool, u8>;
+    fn point(&self, job: &[u8], place: &[u8]) -> Result<[i64; 3], u8>;
+    fn step(&self, job: &[u8], place: &[u8]) -> Result<Step, u8>;
+    fn trace(&self, job: &[u8], buffer: &mut [u8]) -> Result<(Verdict, usize), u8>;
+    fn pen(&self, job: &[u8], places: &[u8], closed: bool, k: u64) -> Result<Move, u8>;
+}
+
+/// The reference.
+pub struct Reference;
+
+impl Product for Reference {
+    fn open(&self, job: &[u8]) -> Result<(usize, Vec<usize>), u8> {
+        let opened = job::open(job)?;
+        Ok((opened.n, opened.polynomials.iter().map(|p| p.len()).collect()))
+    }
+    fn body(&self, job: &[u8], index: u64) -> Result<(usize, usize), u8> {
+        operations::body(job, index)
+    }
+    fn judge(&self, job: &[u8], place: &[u8]) -> Result<bool, u8> {
+        operations::judge(job, place)
+    }
+    fn point(&self, job: &[u8], place: &[u8]) -> Result<[i64; 3], u8> {
+        operations::point(job, place)
+    }
+    fn step(&self, job: &[u8], place: &[u8]) -> Result<Step, u8> {
+        operations::step(job, place)
+    }
+    fn trace(&self, job: &[u8], buffer: &mut [u8]) -> Result<(Verdict, usize), u8> {
+        operations::trace(job, buffer)
+    }
+    fn pen(&self, job: &[u8], places: &[u8], closed: bool, k: u64) -> Result<Move, u8> {
+        operations::pen(job, places, closed, k)
+    }
+}

@@ -1,0 +1,24 @@
+//! Cases A to J and the wrong turns on the reference.
+
+use reference::build::case_a;
+use reference::listing::listing;
+use reference::marked::{self, CASE_A_LISTING};
+use reference::product::Reference;
+
+#[test]
+fn cases_a_to_j() {
+    marked::cases(&Reference);
+}
+
+#[test]
+fn wrong_turns() {
+    marked::wrong_turns(&Reference);
+}
+
+#[test]
+fn listing_of_case_a() {
+    assert_eq!(listing(&case_a().bytes()), CASE_A_LISTING);
+    assert_eq!(listing(&[]), "refused 1\n");
+    assert_eq!(listing(&[0; 2048]), "refused 2\n");
+    assert_eq!(listing(&[0; 2049]), "refused 5\n");
+}
