@@ -5,6 +5,7 @@ use mathlib.Core.Path.{_≡_}
 use mathlib.Core.Bool.{true}
 use mathlib.Core.List.{List, map}
 use lib.IntN.{ℤ}
+use lib.ListN.{length}
 use lib.Dec.{ltb}
 use Rattle.curves.specs.Grid.{Vertex, Place, facetVertices, plus, facetOk, placeOk}
 use Rattle.curves.specs.Walk.{loop, stopped, full}
@@ -13,6 +14,7 @@ use Rattle.curves.specs.Step.{Stop, Field, every, readableAll}
 use Rattle.curves.specs.Joined.{Tracable, Closes, HasFacets}
 use Rattle.curves.specs.GridDemand.{traceOf, GridDemand3}
 use Rattle.curves.proofs.OrderTests.{and-left}
+use Rattle.curves.proofs.Vertices.{facet-low-length}
 use Rattle.curves.proofs.Finite.{within, facetsIn, facetsIn-listed}
 use Rattle.curves.proofs.WalkTrace.{loop-not-full, loop-not-stopped, stopped-not-full}
 use Rattle.curves.proofs.WalkJoined.{not-full-traced}
@@ -35,18 +37,18 @@ tracable-low n φ p o =
     and-left (φ .inBox (p .facet .low)) (every (φ .inBox) (map (plus (p .facet .low)) (p .facet .masks)))
     (and-left (every (φ .inBox) vs) (every (φ .readable) vs) (accepted n φ p o .readable))
 
--- each curve has a number of facets, where all vertices in the box lie between its ends
+-- each curve has a number of facets, where all vertices of n coordinates in the box lie between its ends
 pub curve-finite :
     (n : ℕ) (φ : Field) → 0 < n →
-    (low high : List ℤ) → ((v : Vertex) → φ .inBox v ≡ true → within low high v ≡ true) →
+    (low high : List ℤ) → ((v : Vertex) → length v ≡ n → φ .inBox v ≡ true → within low high v ≡ true) →
     (s : Place) → Tracable n φ s → (k : ℕ) × HasFacets n φ (s .facet) k
 unfolding placeOk
 curve-finite n φ pos low high inside s o = facets-exist (grid-walk n φ pos) o (facetsIn n low high) listed
   where
     listed : (p : Place) → Tracable n φ p → p .facet ∈ facetsIn n low high
     listed p q =
-        facetsIn-listed n low high (p .facet) (and-left (facetOk n (p .facet)) (ltb (p .side) 2) (accepted n φ p q .form))
-        (inside (p .facet .low) (tracable-low n φ p q))
+        let form : facetOk n (p .facet) ≡ true = and-left (facetOk n (p .facet)) (ltb (p .side) 2) (accepted n φ p q .form) in
+        facetsIn-listed n low high (p .facet) form (inside (p .facet .low) (facet-low-length n (p .facet) form) (tracable-low n φ p q))
 
 -- ---- the verdict tells whether the curve closes
 

@@ -186,4 +186,4 @@ ring-closed = outline-closed 3 ringField ringStart 1000 10 (omega arith) (outlin
 -- the box of a field bounds its curves too
 pub ring-finite : (k : ℕ) × HasFacets 3 ringField (ringStart .facet) k
 unfolding ringField
-ring-finite = curve-finite 3 ringField (omega arith) _ _ (λ v e. e) ringStart (ring-closed .start)
+ring-finite = curve-finite 3 ringField (omega arith) _ _ (λ v l e. e) ringStart (ring-closed .start)

@@ -8,3 +8,5 @@ pub mod Operations
 pub mod Answers
 pub mod Pen
 pub mod Listing
+pub mod Short
+pub mod Demand3

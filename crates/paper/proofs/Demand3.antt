@@ -1,0 +1,84 @@
+-- The customer's third demand holds of every job that Trace does not refuse, whatever the spaces.
+use Prim.Native.Nat.{ℕ, suc, zero, _<_}
+use native.Mathlib.Omega.{arith}
+use mathlib.Core.Path.{_≡_, refl, sym, ap, subst, _∙_}
+use mathlib.Core.List.{List, [], List·Memᴰ·head, Memᴰ·append-right}
+use lib.ListN.{length}
+use Rattle.curves.specs.Grid.{Place, turn}
+use Rattle.curves.specs.Walk.{Trace, trace, full}
+use Rattle.curves.specs.Curve.{_∈_}
+use Rattle.curves.specs.Step.{Stop, Field}
+use Rattle.curves.specs.Joined.{Tracable}
+use Rattle.curves.specs.WalkRun.{Traced}
+use Rattle.curves.specs.GridDemand.{GridDemand3}
+use Rattle.curves.proofs.WalkTrace.{traceFrom-none, trace-traced, trace-length, trace-full}
+use Rattle.curves.proofs.GridStep.{turn-tracable}
+use Rattle.curves.proofs.Demand.{grid-demand3}
+use Rattle.paper.specs.Job.{dimension}
+use Rattle.paper.specs.Values.{fieldOf}
+use Rattle.paper.specs.Operations.{stepIn, startOf, traceRefusal, sameSpot}
+use Rattle.paper.specs.Demand3.{StepAfterStep, Demand3}
+use Rattle.paper.proofs.Opens.{Opens, opens-range}
+use Rattle.paper.proofs.StartTracable.{tracable-stepped, trace-opens, start-tracable, start-traced, withStart-traced}
+use Rattle.paper.proofs.PlacesWritten.{job-walk, listed-tracable, listed-read}
+use Rattle.paper.proofs.CurveCounted.{curve-counted, curve-closes-or-not}
+
+trace-nothing : (s : List ℕ) (p : Place) → trace (stepIn s) sameSpot p 0 ≡ record { verdict = full; places = [] }
+unfolding trace
+trace-nothing s p = traceFrom-none (stepIn s) sameSpot p p
+
+module _ {s : List ℕ} (o : Opens s) (p : Place) (t : Tracable (dimension s) (fieldOf s) p) (space : ℕ) where
+  -- the trace from the place
+  abbrev from : Trace Place Stop
+  from = trace (stepIn s) sameSpot p space
+
+  listed-traced : (k : ℕ) → 0 < k → Traced (λ (q : Place). q .facet) (stepIn s) p (trace (stepIn s) sameSpot p k)
+  unfolding stepIn sameSpot
+  listed-traced zero l = absurd (omega arith)
+  listed-traced (suc k) l = trace-traced (job-walk o p t space) t k
+
+  pub step-after-step : StepAfterStep s p space from
+  unfolding stepIn sameSpot
+  step-after-step =
+      record {
+        nothing = λ e. ap (trace (stepIn s) sameSpot p) e ∙ trace-nothing s p;
+        something = listed-traced space;
+        room = trace-length (stepIn s) sameSpot p space;
+        full-room = trace-full (stepIn s) sameSpot p space;
+        taken = λ q i. tracable-stepped o q (listed-tracable o p t space q i);
+        written = listed-read o p t space;
+      }
+
+pub demand3 : (s : List ℕ) → traceRefusal s ≡ 0 → (a b : ℕ) → Demand3 s a b
+unfolding stepIn sameSpot
+demand3 s h a b =
+    let o = trace-opens s h in
+    let n : ℕ = dimension s in
+    let φ : Field = fieldOf s in
+    let t : Tracable n φ (startOf s) = start-tracable s h in
+    let u : Tracable n φ (turn (startOf s)) = turn-tracable n φ (startOf s) t in
+    let d : GridDemand3 n φ (startOf s) a b = grid-demand3 n φ (omega (arith, opens-range o .low)) (startOf s) t a b in
+    let first : Trace Place Stop = trace (stepIn s) sameSpot (startOf s) a in
+    record {
+      first = first;
+      second = trace (stepIn s) sameSpot (turn (startOf s)) b;
+      first-answered = start-traced s h a;
+      second-answered = withStart-traced o (turn (startOf s)) u b;
+      first-steps = step-after-step o (startOf s) t a;
+      second-steps = step-after-step o (turn (startOf s)) u b;
+      reversed = λ l z e.
+          let listed : z ∈ first .places = subst (λ m. z ∈ m) (sym e) (Memᴰ·append-right l (List·Memᴰ·head refl)) in
+          let v : Tracable n φ (turn z) = turn-tracable n φ z (listed-tracable o (startOf s) t a z listed) in
+          record {
+            back = trace (stepIn s) sameSpot (turn z) (length (first .places));
+            back-answered = withStart-traced o (turn z) v (length (first .places));
+            same-places = d .reversed l z e;
+          };
+      no-repeat = d .no-repeat;
+      joined = d .joined;
+      first-enough = d .first-enough;
+      second-enough = d .second-enough;
+      neither-full = d .neither-full;
+      counted = curve-counted s h;
+      closes-or-not = curve-closes-or-not s h;
+    }

@@ -1,0 +1,82 @@
+-- The third demand at two of the marked cases, so that nothing it asks for is out of reach: the curve of case A closes and
+-- has six facets, and the curve of case C does not close.
+use Prim.Native.Nat.{ℕ, _<_}
+use native.Mathlib.Omega.{arith}
+use mathlib.Core.Path.{_≡_, refl, ap, subst, _∙_}
+use mathlib.Core.List.{List, map}
+use lib.ListN.{length, length-map}
+use Rattle.curves.specs.Grid.{Place}
+use Rattle.curves.specs.Walk.{loop, stopped, Trace, trace}
+use Rattle.curves.specs.Step.{Stop, edge}
+use Rattle.curves.specs.GridDemand.{traceOf}
+use Rattle.curves.proofs.WalkTrace.{loop-not-full}
+use Rattle.curves.proofs.WalkJoined.{not-full-traced, traced-no-repeat, traced-joined}
+use Rattle.curves.proofs.WalkClosed.{loop-covers}
+use Rattle.curves.proofs.GridWalk.{grid-walk}
+use Rattle.curves.proofs.Demand.{loop-closed, stopped-open}
+use Rattle.paper.specs.Job.{dimension}
+use Rattle.paper.specs.Values.{fieldOf}
+use Rattle.paper.specs.Operations.{answered, stepIn, startOf, traceRefusal, sameSpot, traced}
+use Rattle.paper.specs.Demand3.{CurveHas, CurveCloses, Demand3}
+use Rattle.paper.proofs.Cases.{caseA, caseC, placesA, markedCases, marked-cases-hold}
+use Rattle.paper.proofs.Refusals.{Answered, answered-inv}
+use Rattle.paper.proofs.Opens.{opens-range}
+use Rattle.paper.proofs.StartTracable.{trace-opens, start-tracable}
+use Rattle.paper.proofs.Demand3.{demand3}
+
+module _ (s : List ℕ) (space : ℕ) (t : Trace Place Stop) (e : traced s space ≡ answered t) where
+  inverted : Answered (traceRefusal s) (trace (stepIn s) sameSpot (startOf s) space) t
+  unfolding traced
+  inverted = answered-inv (traceRefusal s) (trace (stepIn s) sameSpot (startOf s) space) t e
+
+  above-zero : 0 < dimension s
+  above-zero = omega (arith, opens-range (trace-opens s (inverted .none)) .low)
+
+  -- a curve that a trace calls loop closes
+  pub loop-closes-curve : t .verdict ≡ loop → CurveCloses s
+  unfolding stepIn sameSpot
+  loop-closes-curve h =
+      loop-closed (dimension s) (fieldOf s) above-zero (startOf s) (start-tracable s (inverted .none)) space
+      (ap (λ r. r .verdict) (inverted .is) ∙ h)
+
+  -- a curve at which a trace stops does not close
+  pub stopped-opens-curve : (w : Stop) → t .verdict ≡ stopped w → ¬ CurveCloses s
+  unfolding stepIn sameSpot
+  stopped-opens-curve w h =
+      stopped-open (dimension s) (fieldOf s) above-zero (startOf s) (start-tracable s (inverted .none)) space w
+      (ap (λ r. r .verdict) (inverted .is) ∙ h)
+
+  -- and the trace's count is its number of facets
+  pub loop-counts-curve : t .verdict ≡ loop → CurveHas s (length (t .places))
+  unfolding stepIn sameSpot
+  loop-counts-curve h =
+      let g = grid-walk (dimension s) (fieldOf s) above-zero in
+      let o = start-tracable s (inverted .none) in
+      let here : traceOf (dimension s) (fieldOf s) (startOf s) space .verdict ≡ loop = ap (λ r. r .verdict) (inverted .is) ∙ h in
+      let m = not-full-traced g o space (loop-not-full here) in
+      subst (λ r. CurveHas s (length (r .places))) (inverted .is)
+      record {
+        facets = map (λ (p : Place). p .facet) (traceOf (dimension s) (fieldOf s) (startOf s) space .places);
+        no-repeat = traced-no-repeat g o m;
+        every = loop-covers g o m here;
+        only = λ f i. traced-joined g o m i;
+        count = length-map (traceOf (dimension s) (fieldOf s) (startOf s) space .places) (λ (p : Place). p .facet);
+      }
+
+-- ---- cases A and C
+
+pub demand3-caseA : Demand3 caseA 6 6
+unfolding markedCases
+demand3-caseA = demand3 caseA (inverted caseA 4096 _ (marked-cases-hold .1 .0) .none) 6 6
+
+pub caseA-closes : CurveCloses caseA
+unfolding markedCases
+caseA-closes = loop-closes-curve caseA 4096 _ (marked-cases-hold .1 .0) refl
+
+pub caseA-counted : CurveHas caseA 6
+unfolding markedCases placesA
+caseA-counted = loop-counts-curve caseA 4096 _ (marked-cases-hold .1 .0) refl
+
+pub caseC-open : ¬ CurveCloses caseC
+unfolding markedCases
+caseC-open = stopped-opens-curve caseC 4096 _ (marked-cases-hold .1 .1 .1 .1 .1 .1 .1 .1 .1 .1 .1 .0) edge refl

@@ -1,0 +1,85 @@
+-- Boolean tests taken apart: `&&`, `||`, a test that holds for each number of a range, and the two dimensions.
+use mathlib.Core.Path.{_≡_, refl, sym, ap, subst, _∙_}
+use mathlib.Core.Logic.{_⊎_, inl, inr}
+use mathlib.Core.Bool.{Bool, true, false, not, cond, _&&_, _||_, false≢true, true≢false}
+use Prim.Native.Nat.{ℕ, suc, zero, _+_, _-_, _≤_, _<_}
+use native.Mathlib.Omega.{arith}
+use lib.Dec.{eqb}
+use borrow.Author.Tests.{eqb-true, eqb-false, eq-eqb}
+use Rattle.paper.specs.Limits.{dimensionOk}
+use Rattle.paper.specs.Job.{allFrom}
+
+-- ---- and, or
+
+pub and-left : (a b : Bool) → (a && b) ≡ true → a ≡ true
+and-left true b h = refl
+and-left false b h = h
+
+pub and-right : (a b : Bool) → (a && b) ≡ true → b ≡ true
+and-right true b h = h
+and-right false b h = absurd (false≢true h)
+
+pub and-true : {a b : Bool} → a ≡ true → b ≡ true → (a && b) ≡ true
+and-true {a} {b} p q = rw p q
+
+pub or-false-left : (a b : Bool) → (a || b) ≡ false → a ≡ false
+or-false-left true b h = h
+or-false-left false b h = refl
+
+pub or-false-right : (a b : Bool) → (a || b) ≡ false → b ≡ false
+or-false-right true b h = absurd (true≢false h)
+or-false-right false b h = h
+
+pub or-cases : (a b : Bool) → (a || b) ≡ true → (a ≡ true) ⊎ (b ≡ true)
+or-cases true b h = inl refl
+or-cases false b h = inr h
+
+-- ---- every number of a range
+
+-- the test holds at each number from k to k + m − 1
+pub all-at : (t : ℕ → Bool) (k m i : ℕ) → allFrom t k m ≡ true → k ≤ i → i < k + m → t i ≡ true
+unfolding allFrom
+all-at t k zero i h l u = absurd (omega arith)
+all-at t k (suc m) i h l u = go (all-at t (k + 1) m i (and-right (t k) (allFrom t (k + 1) m) h)) (eqb k i) refl
+  where
+    go : (k + 1 ≤ i → i < k + 1 + m → t i ≡ true) → (b : Bool) → eqb k i ≡ b → t i ≡ true
+    go later true e = subst (λ (x : ℕ). t x ≡ true) (eqb-true k i e) (and-left (t k) (allFrom t (k + 1) m) h)
+    go later false e = later (omega (arith, eqb-false k i e)) (omega arith)
+
+-- and the other way round
+pub all-from : (t : ℕ → Bool) (k m : ℕ) → ((i : ℕ) → k ≤ i → i < k + m → t i ≡ true) → allFrom t k m ≡ true
+unfolding allFrom
+all-from t k zero f = refl
+all-from t k (suc m) f =
+    and-true (f k (omega arith) (omega arith)) (all-from t (k + 1) m (λ i l u. f i (omega arith) (omega arith)))
+
+-- a range that is not empty: the first number's test, then the rest
+pub all-first : (t : ℕ → Bool) (k m : ℕ) → t k ≡ true → allFrom t k (suc m) ≡ allFrom t (k + 1) m
+unfolding allFrom
+all-first t k m h = rw h
+
+pub all-fails : (t : ℕ → Bool) (k m : ℕ) → t k ≡ false → allFrom t k (suc m) ≡ false
+unfolding allFrom
+all-fails t k m h = rw h
+
+-- ---- the dimensions
+
+pub two-or-three : (n : ℕ) → dimensionOk n ≡ true → (n ≡ 2) ⊎ (n ≡ 3)
+unfolding dimensionOk
+two-or-three n h = go (or-cases (eqb n 2) (eqb n 3) h)
+  where
+    go : (eqb n 2 ≡ true) ⊎ (eqb n 3 ≡ true) → (n ≡ 2) ⊎ (n ≡ 3)
+    go (inl e) = inl (eqb-true n 2 e)
+    go (inr e) = inr (eqb-true n 3 e)
+
+-- bounds that hold of both
+pub record DimensionRange (n : ℕ) : Type 0 where
+  pub low : 2 ≤ n
+  pub high : n ≤ 3
+
+pub dimension-range : (n : ℕ) → dimensionOk n ≡ true → DimensionRange n
+dimension-range n h = go (two-or-three n h)
+  where
+    go : (n ≡ 2) ⊎ (n ≡ 3) → DimensionRange n
+    go (inl e) = record { low = omega arith; high = omega arith }
+    go (inr e) = record { low = omega arith; high = omega arith }
