@@ -25,3 +25,5 @@ pub mod FacetSigns
 pub mod Simplex
 pub mod Crossed2
 pub mod Examples
+pub mod Bits
+pub mod Weights

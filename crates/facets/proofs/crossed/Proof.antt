@@ -1,0 +1,165 @@
+-- `facets::crossed` meets its contract. At the head of the walk over the vertices every vertex before i was with D, so the answer is what the
+-- vertices from i on say; at the head of the walk over the powers every coefficient before j was 0, so the vertex's sign is that of the rest.
+use Prim.Native.Nat.{_≤_, _-_}
+use mathlib.Core.Path.{_≡_, refl, sym, ap, _∙_}
+use mathlib.Core.Bool.{true, false, true≢false}
+use mathlib.Core.Logic.{⊎-elim}
+use native.Mathlib.Omega.{arith}
+use borrow.Author.Tests.{not-true, not-false}
+use lib.Dec.{lit≤}
+use Rattle.exact.specs.Sign.{sign, lexSign}
+use Rattle.exact.specs.Det.{determinant}
+use Rattle.exact.specs.Crossed.{coefficient, coefficients, crossed}
+use Rattle.exact.proofs.Bits.{back, back-is}
+use Rattle.paper.specs.Cells.{columnList}
+use Rattle.facets.specs.Cells.{signNumber}
+use Rattle.facets.proofs.DeterminantSteps.{facet-sizes, determinant-size}
+use Rattle.facets.proofs.UnitColumn.{coefficient-size}
+use Rattle.facets.proofs.CrossedWalk.{leftAt, left-begin, left-passed, verticesLeft, crossed-zero, crossed-begin, vertices-none, vertex-with, vertex-against, vertex-without}
+use Rattle.facets.proofs.crossed.Statement.{statement}
+use Rattle.facets.proofs.crossed.Tie as tie
+
+abbrev Inv-loop : tie.InvT-loop
+Inv-loop n cols side with₀ i j₀ with j =
+    (with ≡ false) × ((j ≤ n) × (lexSign (coefficients n (columnList n cols) i) ≡ lexSign (leftAt n (columnList n cols) i j)))
+
+abbrev μ-loop : tie.MeasureT-loop
+μ-loop n cols side with₀ i j₀ with j = n - j
+
+abbrev Inv-vertices : tie.InvT-vertices
+Inv-vertices n cols side with₀ i₀ with i =
+    (with ≡ true) × ((i ≤ n) × (crossed n (columnList n cols) ≡ verticesLeft n (columnList n cols) i))
+
+abbrev μ-vertices : tie.MeasureT-vertices
+μ-vertices n cols side with₀ i₀ with i = n - i
+
+-- `side` is the number of D's sign
+side-is :
+    (c : tie.After-sign-of Inv-loop μ-loop Inv-vertices μ-vertices)
+    → c .sign-of .result ≡ signNumber (sign (determinant (c .before .before .args .n) (columnList (c .before .before .args .n) (c .before .before .args .cols))))
+side-is c =
+    c .sign-of .ensures
+    ∙ ap (λ z. signNumber (sign z))
+    (ap back (c .before .determinant .ensures)
+    ∙ back-is (determinant-size (c .before .before .args .n) (c .before .before .args .cols) (facet-sizes (c .before .before .pre))) (lit≤ tt))
+
+-- `found` is the number of the coefficient's sign
+found-is :
+    (c : tie.After-sign-of2 Inv-loop μ-loop Inv-vertices μ-vertices)
+    → c .sign-of2 .result
+    ≡ signNumber (sign (coefficient (c .before .before .before .before .before .before .before .before .before .args .n) (columnList (c .before .before .before .before .before .before .before .before .before .args .n) (c .before .before .before .before .before .before .before .before .before .args .cols)) (c .before .before .before .before .before .vertices .i) (c .before .before .before .loop .j)))
+found-is c =
+    c .sign-of2 .ensures
+    ∙ ap (λ z. signNumber (sign z))
+    (ap back (c .before .coefficient .ensures)
+    ∙ back-is
+    (coefficient-size (c .before .before .before .before .before .before .before .before .before .args .n) (c .before .before .before .before .before .before .before .before .before .args .cols) (c .before .before .before .before .before .vertices .i) (c .before .before .before .loop .j) (facet-sizes (c .before .before .before .before .before .before .before .before .before .pre)) (c .before .before .before .before .before .before .before .before .before .good .1 .0 .1 .0 .1) (c .before .before .before .before .vertices-test .taken)
+    (c .before .before .loop-test .taken)) (lit≤ tt))
+
+determinant-requires : tie.Need-determinant-requires Inv-loop μ-loop Inv-vertices μ-vertices
+determinant-requires c κs = facet-sizes (c .pre)
+
+sign-of-requires : tie.Need-sign-of-requires Inv-loop μ-loop Inv-vertices μ-vertices
+sign-of-requires c κs = tt
+
+returns : tie.Need-returns Inv-loop μ-loop Inv-vertices μ-vertices
+returns c = crossed-zero _ _ (sym (side-is (c .before)) ∙ c .if1 .taken)
+
+vertices-holds : tie.Need-vertices-holds Inv-loop μ-loop Inv-vertices μ-vertices
+vertices-holds c = (refl, (omega arith, crossed-begin _ _ (λ h. c .if1 .left (side-is (c .before) ∙ h))))
+
+loop-holds : tie.Need-loop-holds Inv-loop μ-loop Inv-vertices μ-vertices
+loop-holds c = (refl, (omega arith, left-begin _ _ (c .before .vertices .i)))
+
+coefficient-requires : tie.Need-coefficient-requires Inv-loop μ-loop Inv-vertices μ-vertices
+coefficient-requires c κs =
+    (facet-sizes (c .before .before .before .before .before .before .before .pre), (c .before .before .vertices-test .taken, c .loop-test .taken))
+
+sign-of-requires-2 : tie.Need-sign-of-requires-2 Inv-loop μ-loop Inv-vertices μ-vertices
+sign-of-requires-2 c κs = tt
+
+add-j : tie.Need-add-j Inv-loop μ-loop Inv-vertices μ-vertices
+add-j c = omega arith
+
+loop-less : tie.Need-loop-less Inv-loop μ-loop Inv-vertices μ-vertices
+loop-less c = omega arith
+
+loop-again : tie.Need-loop-again Inv-loop μ-loop Inv-vertices μ-vertices
+loop-again c = (
+  c .before .before .before .before .loop .inv .0,
+  (
+    omega arith,
+    c .before .before .before .before .loop .inv .1 .1
+        ∙ left-passed _ _ (c .before .before .before .before .before .before .vertices .i) (c .before .before .before .before .loop .j) (c .before .before .before .loop-test .taken) (sym (found-is (c .before)) ∙ c .if2 .left),
+  ),
+)
+
+add-i : tie.Need-add-i Inv-loop μ-loop Inv-vertices μ-vertices
+add-i c = omega arith
+
+vertices-less : tie.Need-vertices-less Inv-loop μ-loop Inv-vertices μ-vertices
+vertices-less c = omega arith
+
+vertices-again : tie.Need-vertices-again Inv-loop μ-loop Inv-vertices μ-vertices
+vertices-again c =
+    ⊎-elim
+    (λ w. absurd (true≢false (sym (not-false (c .before .loop-test .with) (c .if4 .left)) ∙ w .1 ∙ c .before .before .loop .inv .0)))
+    (λ w.
+    let found = found-is (record { before = record { before = record { before = c .before .before; loop-test = w .0 }; coefficient = w .1 }; sign-of2 = w .2 }) in (
+      w .5,
+      (
+        omega arith,
+        c .before .before .before .before .vertices .inv .1 .1
+            ∙ vertex-with _ _ (c .before .before .before .before .vertices .i) (c .before .before .loop .j) (c .before .before .before .vertices-test .taken) (w .0 .taken) (c .before .before .loop .inv .1 .1)
+            (λ h. w .3 .taken (found ∙ h)) (sym found ∙ w .4 .left ∙ side-is (c .before .before .before .before .before .before)),
+      ),
+    ))
+    (c .before .loop-test .came)
+
+returns-2 : tie.Need-returns-2 Inv-loop μ-loop Inv-vertices μ-vertices
+returns-2 c =
+    c .before .vertices .inv .0 ∙ sym (c .before .vertices .inv .1 .1 ∙ vertices-none _ _ (c .before .vertices .i) (c .vertices-test .left))
+
+returns-3 : tie.Need-returns-3 Inv-loop μ-loop Inv-vertices μ-vertices
+returns-3 c =
+    c .before .before .before .before .before .loop .inv .0
+    ∙ sym
+    (c .before .before .before .before .before .before .before .vertices .inv .1 .1
+    ∙ vertex-against _ _ (c .before .before .before .before .before .before .before .vertices .i) (c .before .before .before .before .before .loop .j) (c .before .before .before .before .before .before .vertices-test .taken) (c .before .before .before .before .loop-test .taken) (c .before .before .before .before .before .loop .inv .1 .1)
+    (λ h. c .before .if2 .taken (found-is (c .before .before) ∙ h)) (λ h. c .if3 .taken (found-is (c .before .before) ∙ h ∙ sym (side-is (c .before .before .before .before .before .before .before .before .before)))))
+
+returns-4 : tie.Need-returns-4 Inv-loop μ-loop Inv-vertices μ-vertices
+returns-4 c =
+    ⊎-elim
+    (λ w. w .1 ∙ c .before .before .loop .inv .0
+    ∙ sym
+    (c .before .before .before .before .vertices .inv .1 .1
+    ∙ vertex-without _ _ (c .before .before .before .before .vertices .i) (c .before .before .loop .j) (c .before .before .before .vertices-test .taken) (w .0 .left) (c .before .before .loop .inv .1 .1)
+    (λ h. c .before .before .before .before .before .if1 .left (side-is (c .before .before .before .before .before .before) ∙ h))))
+    (λ w. absurd (true≢false (sym (w .5) ∙ not-true (c .before .loop-test .with) (c .if4 .taken))))
+    (c .before .loop-test .came)
+
+pub crossed-spec : {M : Type 1} → statement M
+crossed-spec =
+    tie.close
+    (tie.spec
+    Inv-loop
+    μ-loop
+    Inv-vertices
+    μ-vertices
+    determinant-requires
+    sign-of-requires
+    returns
+    vertices-holds
+    loop-holds
+    coefficient-requires
+    sign-of-requires-2
+    add-j
+    loop-less
+    loop-again
+    add-i
+    vertices-less
+    vertices-again
+    returns-2
+    returns-3
+    returns-4)
