@@ -1,20 +1,21 @@
 -- The bodies of a job whose contents are right: they lie inside the job, one behind the other, and have the length of their
 -- kind. The first part is about the contents alone, over any dimension; the second is about a job that opens.
-use mathlib.Core.Path.{_≡_, refl, sym, ap, subst, _∙_}
-use mathlib.Core.Logic.{_⊎_, inl, inr, ⊎-elim}
-use mathlib.Core.Bool.{Bool, true, false, not, cond, _&&_, _||_}
-use mathlib.Core.List.{List, [], _∷_}
-use Prim.Native.Nat.{ℕ, suc, zero, _+_, _*_, _-_, _/_, _%_, _≤_, _<_}
+use mathlib.Core.Path.{_≡_, refl, sym, subst, _∙_}
+use mathlib.Core.Bool.{Bool, true, false, _&&_}
+use mathlib.Core.List.{List, []}
+use Prim.Native.Nat.{ℕ, suc, zero, _+_, _*_, _-_, _%_, _≤_, _<_}
 use native.Mathlib.Omega.{arith}
-use lib.Dec.{leb, ltb, eqb}
+use lib.Dec.{leb, ltb, eqb, lit<}
 use lib.ListN.{length, take, drop, getD, length-take, length-drop, List·getD-eq-default}
 use lib.Seq.{getD-take, getD-drop}
-use borrow.Author.Tests.{ltb-true, ltb-false, leb-true, eqb-true, eqb-false, eq-eqb, ne-eqb}
+use borrow.Author.Tests.{ltb-true, ltb-false, leb-true, eqb-true, eqb-false, eq-eqb, ne-eqb, not-false}
 use Rattle.paper.specs.Bytes.{byte}
 use Rattle.paper.specs.Limits.{termLimit}
-use Rattle.paper.specs.Job.{dimension, entryOffset, entryLength, contentsEnd, polynomialLengthOk, lengthOk, entriesOk, contentsOk, body, termCount}
-use Rattle.paper.proofs.Tests.{and-left, and-right, DimensionRange}
-use Rattle.paper.proofs.Opens.{Opens, opens-range}
+use Rattle.paper.specs.Job.{dimension, entryOffset, entryLength, contentsEnd, polynomialLengthOk, lengthOk, entriesOk, contentsOk, body, termCount, openRefusal}
+use Rattle.paper.specs.Operations.{bodyRefusal, bodyPart}
+use Rattle.paper.proofs.Tests.{and-left, and-right}
+use Rattle.paper.proofs.Refusals.{not-refused, neither-refused, part-refused, part-given}
+use Rattle.paper.proofs.Opens.{Opens, opens, opens-range}
 
 -- ---- the entries
 
@@ -64,7 +65,7 @@ entries-from n s (suc m) k at j r h e l =
         subst (λ (x : ℕ). EntryOk n s r x (entryOffset s x)) same (subst (λ (x : ℕ). EntryOk n s x k (entryOffset s k)) left here)
     go f rest false w = rest (omega arith) (omega (arith, eqb-false k j w))
 
--- ---- the bodies of a job that opens
+-- ---- the bodies of contents that are right
 
 contents-entries : (n : ℕ) (s : List ℕ) → contentsOk n s ≡ true → entriesOk n s (n + 1) 0 (contentsEnd n) ≡ true
 unfolding contentsOk
@@ -116,14 +117,34 @@ polynomial-kind n k l p u h =
 part-length : (s : List ℕ) (at l : ℕ) → at + l ≤ length s → length (take l (drop at s)) ≡ l
 part-length s at l h = simp (length-take, length-drop) (omega arith)
 
+-- the bodies of contents that are right, for any dimension above 0
+module _ (n : ℕ) (s : List ℕ) (h : contentsOk n s ≡ true) where
+  pub contents-body-length : (k : ℕ) → k ≤ n → length (body s k) ≡ entryLength s k
+  unfolding body
+  contents-body-length k l = part-length s (entryOffset s k) (entryLength s k) (contents-inside n s k h l)
+
+  pub contents-box-length : length (body s 0) ≡ 4 * n
+  contents-box-length =
+      contents-body-length 0 (omega arith) ∙ box-kind n (entryLength s 0) (contents-entry n s 0 h (omega arith) .kind)
+
+  pub contents-start-length : 0 < n → length (body s n) ≡ 3 * n
+  contents-start-length p =
+      contents-body-length n (omega arith) ∙ start-kind n (entryLength s n) p (contents-entry n s n h (omega arith) .kind)
+
+  pub contents-polynomial-length : (k : ℕ) → 0 < k → k < n → PolynomialLength n (length (body s k))
+  contents-polynomial-length k p u =
+      subst (PolynomialLength n) (sym (contents-body-length k (omega arith)))
+      (polynomial-kind n k (entryLength s k) p u (contents-entry n s k h (omega arith) .kind))
+
+-- ---- the bodies of a job that opens
+
 module _ {s : List ℕ} (o : Opens s) where
   -- each body lies inside the job
   pub body-inside : (k : ℕ) → k ≤ dimension s → entryOffset s k + entryLength s k ≤ length s
   body-inside k l = contents-inside (dimension s) s k (o .contents) l
 
   pub body-length : (k : ℕ) → k ≤ dimension s → length (body s k) ≡ entryLength s k
-  unfolding body
-  body-length k l = part-length s (entryOffset s k) (entryLength s k) (body-inside k l)
+  body-length k l = contents-body-length (dimension s) s (o .contents) k l
 
   -- a body's bytes are bytes of the job
   pub body-byte : (k i : ℕ) → i < entryLength s k → byte (body s k) i ≡ byte s (entryOffset s k + i)
@@ -158,19 +179,13 @@ module _ {s : List ℕ} (o : Opens s) where
 
   -- the lengths of the bodies by kind
   pub box-length : length (body s 0) ≡ 4 * dimension s
-  box-length =
-      body-length 0 (omega arith) ∙ box-kind (dimension s) (entryLength s 0) (contents-entry (dimension s) s 0 (o .contents) (omega arith) .kind)
+  box-length = contents-box-length (dimension s) s (o .contents)
 
   pub start-length : length (body s (dimension s)) ≡ 3 * dimension s
-  start-length =
-      body-length (dimension s) (omega arith)
-      ∙ start-kind (dimension s) (entryLength s (dimension s)) (omega (arith, opens-range o .low))
-      (contents-entry (dimension s) s (dimension s) (o .contents) (omega arith) .kind)
+  start-length = contents-start-length (dimension s) s (o .contents) (omega (arith, opens-range o .low))
 
   pub polynomial-length : (k : ℕ) → 0 < k → k < dimension s → PolynomialLength (dimension s) (length (body s k))
-  polynomial-length k p u =
-      subst (PolynomialLength (dimension s)) (sym (body-length k (omega arith)))
-      (polynomial-kind (dimension s) k (entryLength s k) p u (contents-entry (dimension s) s k (o .contents) (omega arith) .kind))
+  polynomial-length k p u = contents-polynomial-length (dimension s) s (o .contents) k p u
 
   -- a polynomial is 8 bytes a term, 1 term at least and at most the limit
   pub terms-length : (k : ℕ) → 0 < k → k < dimension s → length (body s k) ≡ 8 * termCount (body s k)
@@ -212,3 +227,31 @@ body-bound s k limit f i = go (ltb i (entryLength s k)) refl
         let l : entryLength s k ≤ i = ltb-false _ _ e in
         let past : length (take (entryLength s k) (drop (entryOffset s k) s)) ≤ i = simp length-take (omega arith) in
         rw (List·getD-eq-default (take (entryLength s k) (drop (entryOffset s k) s)) 0 past) (omega (arith, f 0))
+
+-- ---- Body
+
+-- what Body does not refuse
+pub record BodyGiven (s : List ℕ) (k : ℕ) : Type 0 where
+  pub opened : openRefusal s ≡ 0
+  pub index : k ≤ dimension s
+
+pub body-given : (s : List ℕ) (k : ℕ) → bodyRefusal s k ≡ 0 → BodyGiven s k
+unfolding bodyRefusal
+body-given s k h =
+    let f = neither-refused _ _ h in
+    let t = not-refused _ _ _ (lit< tt) (f .next) in
+    record { opened = f .first; index = omega (arith, ltb-true k (dimension s + 1) (not-false _ (t .test))) }
+
+-- a refusal's part is empty
+pub refused-part : (s : List ℕ) (k : ℕ) → (bodyRefusal s k ≡ 0 → ⊥) → bodyPart s k ≡ []
+unfolding bodyPart
+refused-part s k h = part-refused (bodyRefusal s k) (body s k) h
+
+-- any other is the body, and no body is empty
+pub given-part : (s : List ℕ) (k : ℕ) → bodyRefusal s k ≡ 0 → bodyPart s k ≡ body s k
+unfolding bodyPart
+given-part s k h = part-given (body s k) h
+
+pub given-part-not-empty : (s : List ℕ) (k : ℕ) → bodyRefusal s k ≡ 0 → 0 < length (bodyPart s k)
+given-part-not-empty s k h =
+    let g = body-given s k h in rw (given-part s k h) (body-not-empty (opens s (g .opened)) k (g .index))

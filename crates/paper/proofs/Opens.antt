@@ -1,18 +1,18 @@
 -- What a job has if Open does not refuse it: the eight tests, each as a fact.
-use mathlib.Core.Path.{_≡_, refl, sym, ap, subst, _∙_}
-use mathlib.Core.Bool.{Bool, true, false, not, _||_}
+use mathlib.Core.Path.{_≡_}
+use mathlib.Core.Bool.{true, not}
 use mathlib.Core.List.{List}
-use Prim.Native.Nat.{ℕ, suc, zero, _+_, _-_, _≤_, _<_}
+use Prim.Native.Nat.{ℕ, _+_, _-_, _≤_, _<_}
 use native.Mathlib.Omega.{arith}
-use lib.Dec.{leb, ltb, eqb, lit<}
+use lib.Dec.{eqb, lit<}
 use lib.ListN.{length}
 use borrow.Author.Tests.{ltb-false, eqb-true, not-false}
 use Rattle.curves.specs.Grid.{placeOk}
 use Rattle.paper.specs.Bytes.{byte}
 use Rattle.paper.specs.Limits.{dimensionOk}
-use Rattle.paper.specs.Job.{dimension, contentsOk, body, boxOk, allFrom, polynomialOk, decodePlace, refuseIf, openRefusal}
+use Rattle.paper.specs.Job.{dimension, contentsOk, body, boxOk, polynomialOk, decodePlace, openRefusal}
 use Rattle.paper.proofs.Tests.{or-false-left, or-false-right, all-at, DimensionRange, dimension-range}
-use Rattle.paper.proofs.Refusals.{NotRefused, not-refused}
+use Rattle.paper.proofs.Refusals.{not-refused}
 
 pub record Opens (s : List ℕ) : Type 0 where
   pub long : 4 ≤ length s

@@ -1,11 +1,11 @@
 -- A chain of refusals, taken apart: what holds if nothing refuses, and what the chain is once a test is known.
-use mathlib.Core.Path.{_≡_, refl, sym, ap, subst, _∙_}
+use mathlib.Core.Path.{_≡_, refl}
 use mathlib.Core.Bool.{Bool, true, false}
-use mathlib.Core.List.{List, [], _∷_}
-use Prim.Native.Nat.{ℕ, suc, zero, _+_, _≤_, _<_}
+use mathlib.Core.List.{List, []}
+use Prim.Native.Nat.{ℕ, suc, zero, _<_}
 use native.Mathlib.Omega.{arith}
 use Rattle.paper.specs.Job.{refuseIf}
-use Rattle.paper.specs.Operations.{Answer, refused, answered, unless, firstRefusal, partUnless}
+use Rattle.paper.specs.Operations.{refused, answered, unless, firstRefusal, partUnless}
 
 -- ---- one test
 

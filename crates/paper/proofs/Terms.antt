@@ -1,17 +1,16 @@
 -- What the tests of a box and of a polynomial say of each axis and each term, as facts on numbers.
-use mathlib.Core.Path.{_≡_, refl, sym, ap, subst, _∙_}
-use mathlib.Core.Logic.{_⊎_, inl, inr, ⊎-elim}
-use mathlib.Core.Bool.{Bool, true, false, not, cond, _&&_, _||_, false≢true}
-use mathlib.Core.List.{List, [], _∷_}
-use Prim.Native.Nat.{ℕ, suc, zero, _+_, _*_, _-_, _/_, _%_, _≤_, _<_}
+use mathlib.Core.Path.{_≡_}
+use mathlib.Core.Bool.{Bool, true, false, not, _&&_, false≢true}
+use mathlib.Core.List.{List}
+use Prim.Native.Nat.{ℕ, suc, zero, _-_, _≤_, _<_}
 use native.Mathlib.Omega.{arith}
-use lib.Dec.{leb, ltb, eqb}
+use lib.Dec.{leb, eqb}
 use lib.IntN.{ℤ, pos, negsuc, natAbs}
-use lib.Signed.{leZ, ltZ, _≤ℤ_, _<ℤ_}
-use borrow.Author.Tests.{ltb-true, leb-true, eqb-true, eqb-false, not-true, not-false, ne-eqb}
+use lib.Signed.{leZ, ltZ}
+use borrow.Author.Tests.{ltb-true, leb-true, eqb-true, eqb-false, not-true, ne-eqb}
 use Rattle.exact.specs.Int.{neg}
 use Rattle.paper.specs.Limits.{coordinateLimit, coefficientLimit, degreeLimit}
-use Rattle.paper.specs.Job.{lowEnd, highEnd, axisOk, allFrom, boxOk, termCount, coefficientOf, exponentOf, exponentsZero, degree, termOk, exponentWeight, rises, polynomialOk}
+use Rattle.paper.specs.Job.{lowEnd, highEnd, axisOk, boxOk, termCount, coefficientOf, exponentOf, exponentsZero, degree, termOk, exponentWeight, rises, polynomialOk}
 use Rattle.paper.proofs.Tests.{and-left, and-right, all-at}
 
 -- ---- the box

@@ -1,0 +1,170 @@
+// Open and Body of document 01: a job's bytes tested in the paper's order, and the parts of a job that opens.
+
+// Little-endian numbers in a list of bytes.
+pub mod read;
+// Flat or bent, and the axes of masks.
+mod boxes;
+mod contents;
+mod limits;
+pub mod masks;
+mod places;
+mod terms;
+
+use paper::Opened;
+ghost use mathlib.Core.Path.{_≡_};
+ghost use mathlib.Core.Bool.{true, false};
+ghost use Prim.Native.Nat.{_+_, _*_, _-_, _≤_, _<_};
+ghost use lib.ListN.{length};
+ghost use Rattle.curves.specs.Grid.{placeOk};
+ghost use Rattle.paper.specs.Limits.{dimensionOk};
+ghost use Rattle.paper.specs.Job.{dimension, body, contentsOk, allFrom, polynomialOk, decodePlace, openRefusal};
+ghost use Rattle.paper.specs.Operations.{opened, polynomialTerms, bodyRefusal, bodyPart};
+ghost use Rattle.paper.specs.Answers.{openedAs};
+ghost use Rattle.job.specs.Parts.{PartInside};
+ghost use Rattle.job.specs.BodyTests.{bodiesRefusal};
+
+// A place of 3n bytes: each mask strictly holds the one before, and the side is 0 or 1.
+pub fn place_ok(n: usize, p: &[u8]) -> bool
+    requires { ⌜ (dimensionOk n ≡ true) × (length (now p) ≡ 3 * n) ⌝ }
+    ensures { λ r. ⌜ r ≡ placeOk n (decodePlace n (now (p .entry))) ⌝ }
+{
+    if !places::chain_ok(n, p) {
+        return false;
+    }
+    read::byte(p, 3 * n - 1) < 2
+}
+
+// Body k of a job whose contents place it inside the job.
+fn part_of(job: &[u8], k: usize) -> &[u8]
+    requires { ⌜ PartInside (now job) k ⌝ }
+    ensures { λ r. ⌜ now r ≡ body (now (job .entry)) k ⌝ }
+{
+    let from = contents::entry_offset(job, k);
+    let to = from + contents::entry_length(job, k);
+    &job[from..to]
+}
+
+// Every polynomial's terms are right and rise.
+fn polynomials_ok(n: usize, job: &[u8]) -> bool
+    requires { ⌜ (n ≤ 3) × (contentsOk n (now job) ≡ true) ⌝ }
+    ensures { λ r. ⌜ r ≡ allFrom (λ k. polynomialOk n (body (now (job .entry)) k)) 1 (n - 1) ⌝ }
+{
+    let mut k = 1;
+    while k < n {
+        if !terms::polynomial_ok(n, part_of(job, k)) {
+            return false;
+        }
+        k += 1;
+    }
+    true
+}
+
+// Open's refusals 5 to 8: contents, box, terms, start.
+fn bodies_refusal(n: usize, job: &[u8]) -> u64
+    requires { ⌜ dimensionOk n ≡ true ⌝ }
+    ensures { λ r. ⌜ r ≡ bodiesRefusal n (now (job .entry)) ⌝ }
+{
+    if !contents::contents_ok(n, job) {
+        return 5;
+    }
+    if !boxes::box_ok(n, part_of(job, 0)) {
+        return 6;
+    }
+    if !polynomials_ok(n, job) {
+        return 7;
+    }
+    if !place_ok(n, part_of(job, n)) {
+        return 8;
+    }
+    0
+}
+
+// Open's refusal, tested in rising number; 0 if the job opens.
+pub fn open_refusal(job: &[u8]) -> u64
+    ensures { λ r. ⌜ r ≡ openRefusal (now (job .entry)) ⌝ }
+{
+    if job.len() < 4 {
+        return 1;
+    }
+    if read::byte(job, 0) != 1 {
+        return 2;
+    }
+    if read::byte(job, 3) != 0 {
+        return 2;
+    }
+    let n = read::byte(job, 1) as usize;
+    if !limits::dimension_ok(n) {
+        return 3;
+    }
+    if read::byte(job, 2) as usize != n + 1 {
+        return 4;
+    }
+    bodies_refusal(n, job)
+}
+
+// The dimension of a job that opens.
+pub fn opened_dimension(job: &[u8]) -> usize
+    requires { ⌜ openRefusal (now job) ≡ 0 ⌝ }
+    ensures { λ r. ⌜ r ≡ dimension (now (job .entry)) ⌝ }
+{
+    read::byte(job, 1) as usize
+}
+
+// Body k of a job that opens.
+pub fn opened_body(job: &[u8], k: usize) -> &[u8]
+    requires { ⌜ (openRefusal (now job) ≡ 0) × (k ≤ dimension (now job)) ⌝ }
+    ensures { λ r. ⌜ now r ≡ body (now (job .entry)) k ⌝ }
+{
+    part_of(job, k)
+}
+
+// The count of terms of polynomial k of a job that opens; 0 if it has no such polynomial.
+fn polynomial_terms(job: &[u8], k: usize) -> u64
+    requires { ⌜ openRefusal (now job) ≡ 0 ⌝ }
+    ensures { λ r. ⌜ r ≡ polynomialTerms (now (job .entry)) k ⌝ }
+{
+    if k < opened_dimension(job) {
+        let b = opened_body(job, k);
+        return (b.len() / 8) as u64;
+    }
+    0
+}
+
+// Open: the refusal's number, or n and each polynomial's count of terms.
+pub fn open(job: &[u8]) -> Opened
+    ensures { λ r. ⌜ openedAs r ≡ opened (now (job .entry)) ⌝ }
+{
+    let refusal = open_refusal(job);
+    if refusal != 0 {
+        return Opened::Refused(refusal);
+    }
+    Opened::Job {
+        n: opened_dimension(job) as u64,
+        terms1: polynomial_terms(job, 1),
+        terms2: polynomial_terms(job, 2),
+    }
+}
+
+// Body's refusal: Open's, then 12 if the index is not under n + 1; 0 if there is none.
+pub fn body_refusal(job: &[u8], k: usize) -> u64
+    ensures { λ r. ⌜ r ≡ bodyRefusal (now (job .entry)) k ⌝ }
+{
+    let refusal = open_refusal(job);
+    if refusal != 0 {
+        return refusal;
+    }
+    if k < opened_dimension(job) + 1 {
+        return 0;
+    }
+    12
+}
+
+// Body's answer: the part of the job that holds body k, empty for a refusal.
+pub fn body_part(job: &[u8], k: usize) -> &[u8]
+    ensures { λ r. ⌜ now r ≡ bodyPart (now (job .entry)) k ⌝ }
+{
+    if body_refusal(job, k) != 0 {
+        return &job[0..0];
+    }
+    opened_body(job, k)
+}
