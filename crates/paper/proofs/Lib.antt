@@ -13,3 +13,4 @@ pub mod PlacesWritten
 pub mod CurveCounted
 pub mod Demand3
 pub mod Demand3Example
+pub mod Millimetre
