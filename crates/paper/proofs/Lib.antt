@@ -14,3 +14,4 @@ pub mod CurveCounted
 pub mod Demand3
 pub mod Demand3Example
 pub mod Millimetre
+pub mod Decimal

@@ -26,7 +26,7 @@ refused-requires-2 c κs = search needs
 returns-2 : tie.Need-returns-2
 returns-2 c =
     let whole = c .before .before .before .if1 .left in
-    let malformed = sym (c .before .before .place-ok .ensures) ∙ not-true _ (c .before .if2 .taken) in
+    let malformed = sym (c .before .before .place-ok .ensures) ∙ not-true (c .before .before .place-ok .result) (c .before .if2 .taken) in
     place-refused (wrong-form _ _ whole malformed) (c .refused2 .ensures)
 
 read-place-requires : tie.Need-read-place-requires
@@ -38,7 +38,7 @@ facet-values-requires c κs = (c .before .before .before .before .before .before
 returns-3 : tie.Need-returns-3
 returns-3 c =
     let whole = c .before .before .before .before .before .before .if1 .left in
-    let well-formed = sym (c .before .before .before .before .before .place-ok .ensures) ∙ not-false _ (c .before .before .before .before .if2 .left) in
+    let well-formed = sym (c .before .before .before .before .before .place-ok .ensures) ∙ not-false (c .before .before .before .before .before .place-ok .result) (c .before .before .before .before .if2 .left) in
     place-found _ _ _ _ (c .before .before .before .before .before .before .before .before .before .pre) refl whole well-formed (c .before .before .before .read-place .ensures) (c .before .facet-values .ensures)
 
 pub place-in-spec : {M : Type 1} → statement M

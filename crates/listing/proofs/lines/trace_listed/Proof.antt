@@ -1,0 +1,58 @@
+-- `trace_listed` meets its contract: the part lent has space for 4,096 places, and the places read back from it are the trace's.
+use mathlib.Core.Path.{_≡_, sym}
+use native.Mathlib.Omega.{arith}
+use lib.ListN.{length, take}
+use lib.Seq.{length-take-le}
+use denote.Ref.{now}
+use Rattle.paper.specs.Listing.{listingSpace}
+use Rattle.listing.specs.Listed.{listedAs}
+use Rattle.listing.proofs.TraceListed.{opened-range, open-refused, trace-read-back}
+use borrow.Author.Needs.{needs}
+use Rattle.listing.proofs.lines.trace_listed.Statement.{statement}
+use Rattle.listing.proofs.lines.trace_listed.Tie as tie
+
+open-refusal-requires : tie.Need-open-refusal-requires
+open-refusal-requires c κs = search needs
+
+returns : tie.Need-returns
+unfolding listedAs
+returns c = open-refused (now (c .before .before .before .before .args .job)) listingSpace (c .before .open-refusal .ensures) (c .if1 .taken)
+
+opened-dimension-requires : tie.Need-opened-dimension-requires
+opened-dimension-requires c κs = search needs
+
+mul-room : tie.Need-mul-room
+mul-room c = omega (arith, c .opened-dimension .ensures, opened-range (now (c .before .before .before .before .before .args .job)) (c .before .before .open-refusal .ensures) (c .before .if1 .left))
+
+slice-relend-prefix-trace : tie.Need-slice-relend-prefix-trace
+slice-relend-prefix-trace c = omega (arith, c .opened-dimension .ensures, opened-range (now (c .before .before .before .before .before .args .job)) (c .before .before .open-refusal .ensures) (c .before .if1 .left))
+
+slice-aggregate-trace : tie.Need-slice-aggregate-trace
+slice-aggregate-trace c =
+    sym (length-take-le _ _ (omega (arith, c .before .opened-dimension .ensures, opened-range (now (c .before .before .before .before .before .before .args .job)) (c .before .before .before .open-refusal .ensures) (c .before .before .if1 .left))))
+
+trace-requires : tie.Need-trace-requires
+trace-requires c κs = search needs
+
+same-length : tie.Need-same-length
+same-length c = search needs
+
+returns-2 : tie.Need-returns-2
+returns-2 c =
+    let s = c .before .before .before .before .before .before .before .before .before in
+    trace-read-back (now (s .args .job)) (now (s .args .places)) _ (c .before .before .before .before .opened-dimension .ensures)
+    (opened-range (now (c .before .before .before .before .before .before .before .before .before .args .job)) (c .before .before .before .before .before .before .open-refusal .ensures) (c .before .before .before .before .before .if1 .left)) (s .pre) _ _ _ (c .before .before .trace .ensures .0) (c .before .before .trace .ensures .1)
+
+pub trace-listed-spec : {M : Type 1} → statement M
+trace-listed-spec =
+    tie.close
+    (tie.spec
+    open-refusal-requires
+    returns
+    opened-dimension-requires
+    mul-room
+    slice-relend-prefix-trace
+    slice-aggregate-trace
+    trace-requires
+    same-length
+    returns-2)

@@ -1,0 +1,3 @@
+-- What the contracts of the listing cite besides the paper's own definitions.
+pub mod Listed
+pub mod Shown

@@ -1,0 +1,54 @@
+-- `put_first` meets its contract: n, a blank, the verdict, a blank, the count, the line's end.
+use mathlib.Core.Path.{refl}
+use native.Mathlib.Omega.{arith}
+use Rattle.paper.specs.Listing.{firstLine}
+use Rattle.text.proofs.WrittenParts.{writes-then, writes-as}
+use borrow.Author.Needs.{needs}
+use Rattle.text.proofs.put_first.Statement.{statement}
+use Rattle.text.proofs.put_first.Tie as tie
+
+put-decimal-requires : tie.Need-put-decimal-requires
+put-decimal-requires c κs = search needs
+
+put-byte-requires : tie.Need-put-byte-requires
+put-byte-requires c κs = search needs
+
+put-verdict-requires : tie.Need-put-verdict-requires
+put-verdict-requires c κs = search needs
+
+put-byte-requires-2 : tie.Need-put-byte-requires-2
+put-byte-requires-2 c κs = search needs
+
+put-decimal-requires-2 : tie.Need-put-decimal-requires-2
+put-decimal-requires-2 c κs = search needs
+
+put-byte-requires-3 : tie.Need-put-byte-requires-3
+put-byte-requires-3 c κs = search needs
+
+same-length : tie.Need-same-length
+same-length c = search needs
+
+returns : tie.Need-returns
+unfolding firstLine
+returns c =
+    let t6 = c .before .before in
+    let t5 = t6 .before .before .before .before in
+    let t4 = t5 .before .before .before .before in
+    let t3 = t4 .before .before .before .before in
+    let t2 = t3 .before .before .before .before in
+    let t1 = t2 .before .before .before .before in
+    writes-as refl (omega arith)
+    (writes-then (omega arith) (t1 .put-decimal .ensures) (λ i. writes-then i (t2 .put-byte .ensures) (λ i. writes-then i (t3 .put-verdict .ensures) (λ i. writes-then i (t4 .put-byte2 .ensures) (λ i. writes-then i (t5 .put-decimal2 .ensures) (λ i. t6 .put-byte3 .ensures))))))
+
+pub put-first-spec : {M : Type 1} → statement M
+put-first-spec =
+    tie.close
+    (tie.spec
+    put-decimal-requires
+    put-byte-requires
+    put-verdict-requires
+    put-byte-requires-2
+    put-decimal-requires-2
+    put-byte-requires-3
+    same-length
+    returns)

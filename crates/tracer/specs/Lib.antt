@@ -1,0 +1,4 @@
+-- What the contracts of this crate cite, beside the definitions of the crates below.
+pub mod Held
+pub mod Ahead
+pub mod Visited
