@@ -23,14 +23,7 @@ use Rattle.text.specs.Lines.{shownFacet}
 use Rattle.listing.specs.Shown.{lineOf, LineAsked}
 use Rattle.listing.proofs.PlacesShown.{facet-at}
 use Rattle.judge.specs.Located.{placedFacet, PlaceRead}
-
-take-padded : {A : Type 0} (d : A) (k n : ℕ) (l : List A) → length l ≡ n → n ≤ k → take n (padded d k l) ≡ l
-unfolding padded
-take-padded d k zero [] e h = refl
-take-padded d k (suc n) [] e h = absurd (omega arith)
-take-padded d k zero (x ∷ l) e h = absurd (omega arith)
-take-padded d zero (suc n) (x ∷ l) e h = absurd (omega arith)
-take-padded d (suc k) (suc n) (x ∷ l) e h = ap (λ t. x ∷ t) (take-padded d k n l (omega arith) (omega arith))
+use Rattle.judge.proofs.Padded.{take-padded}
 
 count-length : (k m : ℕ) → length (countFrom k m) ≡ m
 unfolding countFrom
