@@ -1,0 +1,57 @@
+-- What the code hands on of an operation's answer is the struct of that answer. A coordinate that comes out of an enum is read back from its
+-- bits, so it is equal to the answer's and not the same term.
+use mathlib.Core.Path.{_≡_, sym, ap, _∙_}
+use mathlib.Core.List.{List, [], _∷_}
+use Prim.Native.Nat.{ℕ}
+use lib.IntN.{ℤ}
+use Rattle.curves.specs.Grid.{Place}
+use Rattle.curves.specs.Walk.{Next, go}
+use Rattle.curves.specs.Walk as Walk
+use Rattle.curves.specs.Step.{Stop}
+use Rattle.paper.specs.declared.Verdict.{Verdict}
+use Rattle.paper.specs.declared.PenMove.{PenMove}
+use Rattle.paper.specs.declared.Penned as Penned
+use Rattle.paper.specs.Operations.{Answer, answered}
+use Rattle.paper.specs.Answers.{paddedPoint, paddedStep, verdictAs}
+use Rattle.paper.specs.Pen.{Move, moveAs, pennedAs}
+use Rattle.cabi.specs.declared.PointAnswer.{PointAnswer}
+use Rattle.cabi.specs.declared.StepAnswer.{StepAnswer}
+use Rattle.cabi.specs.declared.TraceAnswer.{TraceAnswer}
+use Rattle.cabi.specs.Numbers.{pointNumbers, stepNumbers, verdictNumber, traceNumbers, penNumbers}
+use Rattle.cabi.proofs.Padding.{point-unpadded, step-unpadded}
+
+-- ---- Point
+
+pub point-as : (a b : Answer (List ℤ)) → b ≡ paddedPoint a → pointNumbers b ≡ pointNumbers a
+point-as a b h = ap pointNumbers h ∙ point-unpadded a
+
+pub point-at : (a : Answer (List ℤ)) {x y z u v w : ℤ} → u ≡ x → v ≡ y → w ≡ z → answered (x ∷ y ∷ z ∷ []) ≡ paddedPoint a
+    → _≡_ {A = PointAnswer} (record { refusal = 0; x = u; y = v; z = w }) (pointNumbers a)
+unfolding pointNumbers
+point-at a {x} {y} {z} e f g h = rw (e, f, g) (point-as a (answered (x ∷ y ∷ z ∷ [])) h)
+
+-- ---- Step
+
+pub step-as : (a b : Answer (Next Place Stop)) → b ≡ paddedStep a → stepNumbers b ≡ stepNumbers a
+step-as a b h = ap stepNumbers h ∙ step-unpadded a
+
+pub step-next : (a : Answer (Next Place Stop)) {x y z u v w : ℤ} {m l s : ℕ} → u ≡ x → v ≡ y → w ≡ z
+    → answered (go (record { facet = record { low = x ∷ y ∷ z ∷ []; masks = m ∷ l ∷ [] }; side = s })) ≡ paddedStep a
+    → _≡_ {A = StepAnswer} (record { refusal = 0; outcome = 0; x = u; y = v; z = w; mask1 = m; mask2 = l; side = s }) (stepNumbers a)
+unfolding stepNumbers
+step-next a e f g h = rw (e, f, g) (step-as a _ h)
+
+-- ---- Trace
+
+pub trace-listed : (a : Answer (Walk.Verdict Stop × ℕ)) {n k : ℕ} (v : Verdict) → n ≡ verdictNumber (verdictAs v) → answered (verdictAs v, k) ≡ a
+    → _≡_ {A = TraceAnswer} (record { refusal = 0; verdict = n; count = k }) (traceNumbers a)
+unfolding traceNumbers
+trace-listed a v e h = rw e (ap traceNumbers h)
+
+-- ---- Pen
+
+-- a move that was matched twice
+pub pen-moved : (a : Answer Move) (r : Penned.Penned) (m l : PenMove) → r ≡ Penned.the-variants.Move m → m ≡ l → pennedAs r ≡ a
+    → penNumbers (answered (moveAs l)) ≡ penNumbers a
+unfolding pennedAs
+pen-moved a r m l e f h = ap (λ (t : PenMove). penNumbers (answered (moveAs t))) (sym f) ∙ ap (λ (t : Penned.Penned). penNumbers (pennedAs t)) (sym e) ∙ ap penNumbers h

@@ -1,0 +1,2 @@
+-- What the C interface hands over.
+pub mod Numbers

@@ -1,0 +1,114 @@
+-- The answers of the operations as the C interface's structs. Refusal 0 is none; beside a refusal every other field is 0, and so is a field
+-- that an answer does not use: the axis, the mask or the count that dimension 2 does not have, the place of an edge, the point of a close.
+use Prim.Native.Nat.{ℕ}
+use mathlib.Core.Bool.{Bool, true, false, not}
+use mathlib.Core.List.{List}
+use lib.IntN.{ℤ}
+use lib.Dec.{eqb}
+use lib.ListN.{getD}
+use lib.Ieee.{Float, ofBits, binary64}
+use Rattle.exact.specs.Int.{0ℤ}
+use Rattle.curves.specs.Grid.{Place}
+use Rattle.curves.specs.Walk.{Next, stop, go, Verdict, loop, stopped, full}
+use Rattle.curves.specs.Step.{Stop, edge, limit}
+use Rattle.paper.specs.Job.{entryOffset, entryLength}
+use Rattle.paper.specs.Operations.{Answer, refused, answered, unless, bodyRefusal}
+use Rattle.paper.specs.Pen.{Move, lift, draw, close}
+use Rattle.cabi.specs.declared.OpenAnswer.{OpenAnswer}
+use Rattle.cabi.specs.declared.BodyAnswer.{BodyAnswer}
+use Rattle.cabi.specs.declared.JudgeAnswer.{JudgeAnswer}
+use Rattle.cabi.specs.declared.PointAnswer.{PointAnswer}
+use Rattle.cabi.specs.declared.StepAnswer.{StepAnswer}
+use Rattle.cabi.specs.declared.TraceAnswer.{TraceAnswer}
+use Rattle.cabi.specs.declared.PenAnswer.{PenAnswer}
+
+-- n and each polynomial's count of terms
+unfoldable pub openNumbers : Answer (List ℕ) → OpenAnswer
+openNumbers (refused k) = record { refusal = k; n = 0; terms1 = 0; terms2 = 0 }
+openNumbers (answered v) = record { refusal = 0; n = getD v 0 0; terms1 = getD v 1 0; terms2 = getD v 2 0 }
+
+-- where body k lies in the job
+unfoldable pub bodyEntry : List ℕ → ℕ → Answer (ℕ × ℕ)
+bodyEntry s k = unless (bodyRefusal s k) (entryOffset s k, entryLength s k)
+
+unfoldable pub bodyNumbers : Answer (ℕ × ℕ) → BodyAnswer
+bodyNumbers (refused k) = record { refusal = k; offset = 0; length = 0 }
+bodyNumbers (answered e) = record { refusal = 0; offset = e .0; length = e .1 }
+
+-- 1 crossed, 0 not
+unfoldable pub judgeNumbers : Answer Bool → JudgeAnswer
+judgeNumbers (refused k) = record { refusal = k; crossed = 0 }
+judgeNumbers (answered true) = record { refusal = 0; crossed = 1 }
+judgeNumbers (answered false) = record { refusal = 0; crossed = 0 }
+
+-- the point in steps of 1/1024
+unfoldable pub pointNumbers : Answer (List ℤ) → PointAnswer
+pointNumbers (refused k) = record { refusal = k; x = 0ℤ; y = 0ℤ; z = 0ℤ }
+pointNumbers (answered v) = record { refusal = 0; x = getD v 0 0ℤ; y = getD v 1 0ℤ; z = getD v 2 0ℤ }
+
+-- outcome 0 the next place, 1 edge, 2 limit
+unfoldable pub withoutPlace : ℕ → ℕ → StepAnswer
+withoutPlace refusal outcome = record {
+  refusal = refusal;
+  outcome = outcome;
+  x = 0ℤ;
+  y = 0ℤ;
+  z = 0ℤ;
+  mask1 = 0;
+  mask2 = 0;
+  side = 0;
+}
+
+unfoldable pub stepNumbers : Answer (Next Place Stop) → StepAnswer
+stepNumbers (refused k) = withoutPlace k 0
+stepNumbers (answered (stop edge)) = withoutPlace 0 1
+stepNumbers (answered (stop limit)) = withoutPlace 0 2
+stepNumbers (answered (go p)) = record {
+  refusal = 0;
+  outcome = 0;
+  x = getD (p .facet .low) 0 0ℤ;
+  y = getD (p .facet .low) 1 0ℤ;
+  z = getD (p .facet .low) 2 0ℤ;
+  mask1 = getD (p .facet .masks) 0 0;
+  mask2 = getD (p .facet .masks) 1 0;
+  side = p .side;
+}
+
+-- 0 loop, 1 edge, 2 limit, 3 full
+unfoldable pub verdictNumber : Verdict Stop → ℕ
+verdictNumber loop = 0
+verdictNumber (stopped edge) = 1
+verdictNumber (stopped limit) = 2
+verdictNumber full = 3
+
+-- the verdict and the count of places written
+unfoldable pub traceNumbers : Answer (Verdict Stop × ℕ) → TraceAnswer
+traceNumbers (refused k) = record { refusal = k; verdict = 0; count = 0 }
+traceNumbers (answered t) = record { refusal = 0; verdict = verdictNumber (t .0); count = t .1 }
+
+-- a mark is set by any number but 0
+unfoldable pub isSet : ℕ → Bool
+isSet mark = not (eqb mark 0)
+
+-- the float all of whose bits are 0, + 0
+abbrev pub zeroFloat : Float
+zeroFloat = ofBits binary64 0
+
+-- kind 0 lift, 1 draw, 2 close
+unfoldable pub withoutPoint : ℕ → ℕ → PenAnswer
+withoutPoint refusal kind = record { refusal = refusal; kind = kind; x = zeroFloat; y = zeroFloat; z = zeroFloat }
+
+unfoldable pub withPoint : ℕ → List Float → PenAnswer
+withPoint kind v = record {
+  refusal = 0;
+  kind = kind;
+  x = getD v 0 zeroFloat;
+  y = getD v 1 zeroFloat;
+  z = getD v 2 zeroFloat;
+}
+
+unfoldable pub penNumbers : Answer Move → PenAnswer
+penNumbers (refused k) = withoutPoint k 0
+penNumbers (answered (lift v)) = withPoint 0 v
+penNumbers (answered (draw v)) = withPoint 1 v
+penNumbers (answered close) = withoutPoint 0 2

@@ -1,0 +1,110 @@
+/* The C interface of Gethwapiko (archive: target/staticlib/libcabi.a, x86-64).
+ *
+ * Each function answers exactly what the definition of document 01 says, for every input; the proof is in crates/cabi.
+ * Bytes are handed over as a pointer and a count, and the pointer must be good for that many bytes. Nothing is kept between calls,
+ * nothing is allocated, and only the buffer of gethwapiko_trace is written; it must not overlap the job.
+ *
+ * The field `refusal` is 0 or the number of the refusal; beside a refusal every other field is 0.
+ * A field that an answer does not use is 0: terms2, z and mask2 in dimension 2, the place of an edge, the point of a close.
+ *
+ * Refusals, in the order in which Open tests them; every other function opens the job first:
+ *    1  fewer than 4 bytes                 5  contents cut short, bodies not adjacent, or a length wrong for its kind
+ *    2  byte 0 or 3 wrong                  6  box
+ *    3  dimension                          7  a term, or the order of terms
+ *    4  entry count                        8  the start's masks or side
+ * and of a place or an index:
+ *    9  a vertex outside the box          12  index past the last
+ *   10  a vertex value not readable       13  the place is not 3n bytes or is malformed; for Pen first, a length that is no multiple of 3n
+ *   11  not crossed
+ *
+ * A place is 3n bytes, little-endian: n signed 16-bit coordinates of the lowest vertex, n - 1 masks, a side 0 or 1.
+ */
+#ifndef GETHWAPIKO_H
+#define GETHWAPIKO_H
+
+#include <stddef.h>
+#include <stdint.h>
+
+#ifdef __cplusplus
+extern "C" {
+#endif
+
+typedef struct {
+    uint64_t refusal;
+    uint64_t n;      /* the dimension, 2 or 3 */
+    uint64_t terms1; /* the terms of polynomial 1 */
+    uint64_t terms2; /* the terms of polynomial 2 */
+} OpenAnswer;
+
+typedef struct {
+    uint64_t refusal;
+    uint64_t offset; /* from byte 0 of the job */
+    uint64_t length; /* never 0 where there is no refusal */
+} BodyAnswer;
+
+typedef struct {
+    uint64_t refusal;
+    uint64_t crossed; /* 1 crossed, 0 not */
+} JudgeAnswer;
+
+typedef struct {
+    uint64_t refusal;
+    int64_t x, y, z; /* in steps of 1/1024, rounded down */
+} PointAnswer;
+
+enum { GETHWAPIKO_NEXT = 0, GETHWAPIKO_STEP_EDGE = 1, GETHWAPIKO_STEP_LIMIT = 2 };
+
+typedef struct {
+    uint64_t refusal;
+    uint64_t outcome; /* 0 the next place, 1 edge, 2 limit */
+    int64_t x, y, z;  /* the next place's lowest vertex */
+    uint64_t mask1, mask2;
+    uint64_t side;
+} StepAnswer;
+
+enum { GETHWAPIKO_LOOP = 0, GETHWAPIKO_EDGE = 1, GETHWAPIKO_LIMIT = 2, GETHWAPIKO_FULL = 3 };
+
+typedef struct {
+    uint64_t refusal;
+    uint64_t verdict; /* 0 loop, 1 edge, 2 limit, 3 full */
+    uint64_t count;   /* the places written, 3n bytes each */
+} TraceAnswer;
+
+enum { GETHWAPIKO_LIFT = 0, GETHWAPIKO_DRAW = 1, GETHWAPIKO_CLOSE = 2 };
+
+typedef struct {
+    uint64_t refusal;
+    uint64_t kind;  /* 0 lift, 1 draw, 2 close */
+    double x, y, z; /* in millimetres: the steps divided by 1024, exactly */
+} PenAnswer;
+
+/* Open: the dimension and each polynomial's count of terms. Refusals 1 to 8. */
+OpenAnswer gethwapiko_open(const uint8_t *job, size_t job_length);
+
+/* Body: where in the job body `index` lies: 0 the box, 1 to n - 1 the polynomials, n the start. Refusal 12. */
+BodyAnswer gethwapiko_body(const uint8_t *job, size_t job_length, uint64_t index);
+
+/* Judge: whether the place's facet is crossed. Refusals 13, 9, 10. */
+JudgeAnswer gethwapiko_judge(const uint8_t *job, size_t job_length, const uint8_t *place, size_t place_length);
+
+/* Point: where the curve crosses the place's facet. Refusals 13, 9, 10, 11. */
+PointAnswer gethwapiko_point(const uint8_t *job, size_t job_length, const uint8_t *place, size_t place_length);
+
+/* Step: the place of the other crossed facet of the simplex on the place's side; edge if that simplex has a vertex outside the box,
+ * limit if one of its values is not readable. Refusals 13, 9, 10, 11. */
+StepAnswer gethwapiko_step(const uint8_t *job, size_t job_length, const uint8_t *place, size_t place_length);
+
+/* Trace: the places from the job's start on, written to the buffer from its front. It has space for buffer_length / 3n places.
+ * loop: the next facet is the start's; edge, limit: as in Step; full: no space for the next place.
+ * Bytes past the last place written keep their values, and a refusal (9, 10, 11 for the start) touches nothing. */
+TraceAnswer gethwapiko_trace(const uint8_t *job, size_t job_length, uint8_t *buffer, size_t buffer_length);
+
+/* Pen: move k of a list of m places, 3n bytes each: k = 0 lifts to place 0, k under m draws to place k, and k = m with m above 0 closes
+ * if `closed` is not 0. Refusals 13, 12, then 13, 9, 10, 11 for place k; a close looks at no place. */
+PenAnswer gethwapiko_pen(const uint8_t *job, size_t job_length, const uint8_t *places, size_t places_length, uint8_t closed, uint64_t k);
+
+#ifdef __cplusplus
+}
+#endif
+
+#endif
