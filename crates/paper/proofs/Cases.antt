@@ -3,7 +3,7 @@
 use Prim.Native.Nat.{ℕ, suc}
 use mathlib.Core.Path.{_≡_, refl}
 use mathlib.Core.Bool.{Bool, true, false}
-use mathlib.Core.List.{List, [], _∷_, map}
+use mathlib.Core.List.{List, [], _∷_, _++_, map}
 use lib.IntN.{ℤ, pos, negsuc}
 use lib.ListN.{length, take}
 use lib.Count as Count
@@ -46,45 +46,36 @@ caseC =
     ∷ 1 ∷ 0 ∷ 0 ∷ 0 ∷ 1 ∷ 0 ∷ 0 ∷ 0 ∷ 0 ∷ 1 ∷ 0 ∷ 0
     ∷ 0 ∷ 0 ∷ 0 ∷ 0 ∷ 0 ∷ 0 ∷ 1 ∷ 3 ∷ 0 ∷ []
 
--- F: one polynomial, x
+-- the jobs of F to J: dimension 2, one polynomial of one term; box, term and start are given as bytes
+unfoldable pub oneTermJob : List ℕ → List ℕ → List ℕ → List ℕ
+oneTermJob box term start =
+    (1 ∷ 2 ∷ 3 ∷ 0 ∷ 16 ∷ 0 ∷ 8 ∷ 0 ∷ 24 ∷ 0 ∷ 8 ∷ 0 ∷ 32 ∷ 0 ∷ 6 ∷ 0 ∷ []) ++ (box ++ (term ++ start))
+
+-- box 0 to 1 on both axes; start 0 0, mask 1, side 0
+unfoldable pub unitBox : List ℕ
+unitBox = 0 ∷ 0 ∷ 1 ∷ 0 ∷ 0 ∷ 0 ∷ 1 ∷ 0 ∷ []
+
+unfoldable pub unitStart : List ℕ
+unitStart = 0 ∷ 0 ∷ 0 ∷ 0 ∷ 1 ∷ 0 ∷ []
+
+-- F: x; G: − x; H: y
 unfoldable pub caseF : List ℕ
-caseF =
-    1 ∷ 2 ∷ 3 ∷ 0 ∷ 16 ∷ 0 ∷ 8 ∷ 0 ∷ 24 ∷ 0 ∷ 8 ∷ 0
-    ∷ 32 ∷ 0 ∷ 6 ∷ 0 ∷ 0 ∷ 0 ∷ 1 ∷ 0 ∷ 0 ∷ 0 ∷ 1 ∷ 0
-    ∷ 1 ∷ 0 ∷ 0 ∷ 0 ∷ 1 ∷ 0 ∷ 0 ∷ 0 ∷ 0 ∷ 0 ∷ 0 ∷ 0
-    ∷ 1 ∷ 0 ∷ []
+caseF = oneTermJob unitBox (1 ∷ 0 ∷ 0 ∷ 0 ∷ 1 ∷ 0 ∷ 0 ∷ 0 ∷ []) unitStart
 
--- G: one polynomial, − x
 unfoldable pub caseG : List ℕ
-caseG =
-    1 ∷ 2 ∷ 3 ∷ 0 ∷ 16 ∷ 0 ∷ 8 ∷ 0 ∷ 24 ∷ 0 ∷ 8 ∷ 0
-    ∷ 32 ∷ 0 ∷ 6 ∷ 0 ∷ 0 ∷ 0 ∷ 1 ∷ 0 ∷ 0 ∷ 0 ∷ 1 ∷ 0
-    ∷ 255 ∷ 255 ∷ 255 ∷ 255 ∷ 1 ∷ 0 ∷ 0 ∷ 0 ∷ 0 ∷ 0 ∷ 0 ∷ 0
-    ∷ 1 ∷ 0 ∷ []
+caseG = oneTermJob unitBox (255 ∷ 255 ∷ 255 ∷ 255 ∷ 1 ∷ 0 ∷ 0 ∷ 0 ∷ []) unitStart
 
--- H: one polynomial, y
 unfoldable pub caseH : List ℕ
-caseH =
-    1 ∷ 2 ∷ 3 ∷ 0 ∷ 16 ∷ 0 ∷ 8 ∷ 0 ∷ 24 ∷ 0 ∷ 8 ∷ 0
-    ∷ 32 ∷ 0 ∷ 6 ∷ 0 ∷ 0 ∷ 0 ∷ 1 ∷ 0 ∷ 0 ∷ 0 ∷ 1 ∷ 0
-    ∷ 1 ∷ 0 ∷ 0 ∷ 0 ∷ 0 ∷ 1 ∷ 0 ∷ 0 ∷ 0 ∷ 0 ∷ 0 ∷ 0
-    ∷ 1 ∷ 0 ∷ []
+caseH = oneTermJob unitBox (1 ∷ 0 ∷ 0 ∷ 0 ∷ 0 ∷ 1 ∷ 0 ∷ 0 ∷ []) unitStart
 
--- I: one polynomial, 1,048,576·x²; box 16 to 17 on axis 1
+-- I: 1,048,576·x², box 16 to 17 on axis 1, start 16 0, mask 2
 unfoldable pub caseI : List ℕ
 caseI =
-    1 ∷ 2 ∷ 3 ∷ 0 ∷ 16 ∷ 0 ∷ 8 ∷ 0 ∷ 24 ∷ 0 ∷ 8 ∷ 0
-    ∷ 32 ∷ 0 ∷ 6 ∷ 0 ∷ 16 ∷ 0 ∷ 17 ∷ 0 ∷ 0 ∷ 0 ∷ 1 ∷ 0
-    ∷ 0 ∷ 0 ∷ 16 ∷ 0 ∷ 2 ∷ 0 ∷ 0 ∷ 0 ∷ 16 ∷ 0 ∷ 0 ∷ 0
-    ∷ 2 ∷ 0 ∷ []
+    oneTermJob (16 ∷ 0 ∷ 17 ∷ 0 ∷ 0 ∷ 0 ∷ 1 ∷ 0 ∷ []) (0 ∷ 0 ∷ 16 ∷ 0 ∷ 2 ∷ 0 ∷ 0 ∷ 0 ∷ []) (16 ∷ 0 ∷ 0 ∷ 0 ∷ 2 ∷ 0 ∷ [])
 
--- J: box 1 to 1 on axis 1
+-- J: F with box 1 to 1 on axis 1
 unfoldable pub caseJ : List ℕ
-caseJ =
-    1 ∷ 2 ∷ 3 ∷ 0 ∷ 16 ∷ 0 ∷ 8 ∷ 0 ∷ 24 ∷ 0 ∷ 8 ∷ 0
-    ∷ 32 ∷ 0 ∷ 6 ∷ 0 ∷ 1 ∷ 0 ∷ 1 ∷ 0 ∷ 0 ∷ 0 ∷ 1 ∷ 0
-    ∷ 1 ∷ 0 ∷ 0 ∷ 0 ∷ 1 ∷ 0 ∷ 0 ∷ 0 ∷ 0 ∷ 0 ∷ 0 ∷ 0
-    ∷ 1 ∷ 0 ∷ []
+caseJ = oneTermJob (1 ∷ 0 ∷ 1 ∷ 0 ∷ 0 ∷ 0 ∷ 1 ∷ 0 ∷ []) (1 ∷ 0 ∷ 0 ∷ 0 ∷ 1 ∷ 0 ∷ 0 ∷ 0 ∷ []) unitStart
 
 -- ---- the rows
 
@@ -176,6 +167,6 @@ markedCases =
 
 -- every marked case holds
 pub marked-cases-hold : AllHold markedCases
-unfolding Int._⊕_ Int.neg Int._⊖_ Int._⊗_ Int.power Det.laplace Det.ifNone Det.det Det.rowsFrom Det.determinant Sign.sign Sign.orElse Sign.lexSign Sign.sameSign Crossed.countFrom Crossed.unitColumn Crossed.coefficient Crossed.coefficients Crossed.allHaveSign Crossed.crossed Crossed.remove Crossed.otherCrossed Crossed.exit Grid.up Grid.down Grid.plus Grid.axesFrom Grid.axes Grid.holds Grid.vertices Grid.absent Grid.distinct Grid.under Grid.isOrder Grid.facetVertices Grid.chain Grid.facetOk Grid.placeOk Grid.sameVertex Grid.sameMasks Grid.sameFacet Grid.turn Grid.steps Grid.lastMask Grid.flat Grid.missed Grid.oriented Grid.added Grid.bend Grid.downs Grid.flatSide Grid.bentSide Grid.incidence Grid.masksFrom Grid.sideOf Grid.placeAt Grid.placeOf Grid.exchange Grid.lastAxis Grid.butLast Grid.pivotFirst Grid.pivotLast Grid.pivotAt Grid.pivot Grid.orders Step.every Step.column Step.columns Step.crossedFacet Step.readableAll Step.tracable Step.onward Step.stepThrough Step.step Walk.afterTest Walk.afterStep Walk.traceFrom Walk.trace Bytes.byte Bytes.word Bytes.doubleWord Bytes.signed Bytes.signedWord Bytes.signedDoubleWord Bytes.wordOf Bytes.wordBytes Limits.dimensionOk Limits.coordinateLimit Limits.termLimit Limits.coefficientLimit Limits.degreeLimit Limits.readableLimit Limits.stepsPerUnit Job.dimension Job.entryOffset Job.entryLength Job.contentsEnd Job.polynomialLengthOk Job.lengthOk Job.entriesOk Job.contentsOk Job.body Job.lowEnd Job.highEnd Job.axisOk Job.allFrom Job.boxOk Job.termCount Job.coefficientOf Job.exponentOf Job.exponentsZero Job.degree Job.termOk Job.exponentWeight Job.rises Job.polynomialOk Job.decodePlace Job.vertexBytes Job.encodePlace Job.withStart Job.refuseIf Job.openRefusal Values.monomial Values.termValue Values.sumFrom Values.rawSum Values.readableSum Values.valueOf Values.sums Values.insideFrom Values.fieldOf Values.roundSteps Values.hasAxis Values.weightSum Values.overSize Values.coordinateSteps Values.pointFrom Values.pointOf Operations.unless Operations.firstRefusal Operations.polynomialTerms Operations.openValues Operations.opened Operations.bodyRefusal Operations.partUnless Operations.bodyPart Operations.facetRefusal Operations.crossedIn Operations.placeBad Operations.facetOf Operations.judgeRefusal Operations.judged Operations.pointRefusal Operations.pointed Operations.stepIn Operations.stepped Operations.startOf Operations.traceRefusal Operations.sameSpot Operations.traced Operations.spaceOf Operations.verdictAndCount Operations.encodePlaces Operations.bufferAfter Count.ones Count.onesIn markedCases placesA placesC caseA caseC caseF caseG caseH caseI caseJ
+unfolding Int._⊕_ Int.neg Int._⊖_ Int._⊗_ Int.power Det.laplace Det.ifNone Det.det Det.rowsFrom Det.determinant Sign.sign Sign.orElse Sign.lexSign Sign.sameSign Crossed.countFrom Crossed.unitColumn Crossed.coefficient Crossed.coefficients Crossed.allHaveSign Crossed.crossed Crossed.remove Crossed.otherCrossed Crossed.exit Grid.up Grid.down Grid.plus Grid.axesFrom Grid.axes Grid.holds Grid.vertices Grid.absent Grid.distinct Grid.under Grid.isOrder Grid.facetVertices Grid.chain Grid.facetOk Grid.placeOk Grid.sameVertex Grid.sameMasks Grid.sameFacet Grid.turn Grid.steps Grid.lastMask Grid.flat Grid.missed Grid.oriented Grid.added Grid.bend Grid.downs Grid.flatSide Grid.bentSide Grid.incidence Grid.masksFrom Grid.sideOf Grid.placeAt Grid.placeOf Grid.exchange Grid.lastAxis Grid.butLast Grid.pivotFirst Grid.pivotLast Grid.pivotAt Grid.pivot Grid.orders Step.every Step.column Step.columns Step.crossedFacet Step.readableAll Step.tracable Step.onward Step.stepThrough Step.step Walk.afterTest Walk.afterStep Walk.traceFrom Walk.trace Bytes.byte Bytes.word Bytes.doubleWord Bytes.signed Bytes.signedWord Bytes.signedDoubleWord Bytes.wordOf Bytes.wordBytes Limits.dimensionOk Limits.coordinateLimit Limits.termLimit Limits.coefficientLimit Limits.degreeLimit Limits.readableLimit Limits.stepsPerUnit Job.dimension Job.entryOffset Job.entryLength Job.contentsEnd Job.polynomialLengthOk Job.lengthOk Job.entriesOk Job.contentsOk Job.body Job.lowEnd Job.highEnd Job.axisOk Job.allFrom Job.boxOk Job.termCount Job.coefficientOf Job.exponentOf Job.exponentsZero Job.degree Job.termOk Job.exponentWeight Job.rises Job.polynomialOk Job.decodePlace Job.vertexBytes Job.encodePlace Job.withStart Job.refuseIf Job.openRefusal Values.monomial Values.termValue Values.sumFrom Values.rawSum Values.readableSum Values.valueOf Values.sums Values.insideFrom Values.fieldOf Values.roundSteps Values.hasAxis Values.weightSum Values.overSize Values.coordinateSteps Values.pointFrom Values.pointOf Operations.unless Operations.firstRefusal Operations.polynomialTerms Operations.openValues Operations.opened Operations.bodyRefusal Operations.partUnless Operations.bodyPart Operations.facetRefusal Operations.crossedIn Operations.placeBad Operations.facetOf Operations.judgeRefusal Operations.judged Operations.pointRefusal Operations.pointed Operations.stepIn Operations.stepped Operations.startOf Operations.traceRefusal Operations.sameSpot Operations.traced Operations.spaceOf Operations.verdictAndCount Operations.encodePlaces Operations.bufferAfter Count.ones Count.onesIn markedCases placesA placesC oneTermJob unitBox unitStart caseA caseC caseF caseG caseH caseI caseJ
 marked-cases-hold =
     ((refl, refl, refl), (refl, (refl, (refl, (refl, (refl, (refl, (refl, (refl, (refl, (refl, (refl, (refl, (refl, (refl, (refl, (refl, (refl, (refl, (refl, (refl, (refl, (refl, (refl, tt))))))))))))))))))))))))

@@ -15,3 +15,4 @@ pub mod Demand3
 pub mod Demand3Example
 pub mod Millimetre
 pub mod Decimal
+pub mod Rounding
