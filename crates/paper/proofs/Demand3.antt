@@ -2,7 +2,7 @@
 use Prim.Native.Nat.{ℕ, suc, zero, _<_}
 use native.Mathlib.Omega.{arith}
 use mathlib.Core.Path.{_≡_, refl, sym, ap, subst, _∙_}
-use mathlib.Core.List.{List, [], List·Memᴰ·head, Memᴰ·append-right}
+use mathlib.Core.List.{List, [], _∷_, _++_, List·Memᴰ·head, Memᴰ·append-right}
 use lib.ListN.{length}
 use Rattle.curves.specs.Grid.{Place, turn}
 use Rattle.curves.specs.Walk.{Trace, trace, full}
@@ -17,7 +17,7 @@ use Rattle.curves.proofs.Demand.{grid-demand3}
 use Rattle.paper.specs.Job.{dimension}
 use Rattle.paper.specs.Values.{fieldOf}
 use Rattle.paper.specs.Operations.{stepIn, startOf, traceRefusal, sameSpot}
-use Rattle.paper.specs.Demand3.{StepAfterStep, Demand3}
+use Rattle.paper.specs.Demand3.{StepAfterStep, Reversed, Demand3}
 use Rattle.paper.proofs.Opens.{Opens, opens-range}
 use Rattle.paper.proofs.StartTracable.{tracable-stepped, trace-opens, start-tracable, start-traced, withStart-traced}
 use Rattle.paper.proofs.PlacesWritten.{job-walk, listed-tracable, listed-read}
@@ -49,33 +49,45 @@ module _ {s : List ℕ} (o : Opens s) (p : Place) (t : Tracable (dimension s) (f
         written = listed-read o p t space;
       }
 
+  -- the trace from its last place turned lists the same places in reverse, each turned
+  reversed-from : (l : List Place) (z : Place) → from .places ≡ l ++ (z ∷ []) → Reversed s from z
+  unfolding stepIn sameSpot
+  reversed-from l z e =
+      let n : ℕ = dimension s in
+      let φ : Field = fieldOf s in
+      let d : GridDemand3 n φ p space 0 = grid-demand3 n φ (omega (arith, opens-range o .low)) p t space 0 in
+      let listed : z ∈ from .places = subst (λ m. z ∈ m) (sym e) (Memᴰ·append-right l (List·Memᴰ·head refl)) in
+      let v : Tracable n φ (turn z) = turn-tracable n φ z (listed-tracable o p t space z listed) in
+      record {
+        back = trace (stepIn s) sameSpot (turn z) (length (from .places));
+        back-answered = withStart-traced o (turn z) v (length (from .places));
+        same-places = d .reversed l z e;
+      }
+
 pub demand3 : (s : List ℕ) → traceRefusal s ≡ 0 → (a b : ℕ) → Demand3 s a b
-unfolding stepIn sameSpot
+unfolding stepIn sameSpot turn
 demand3 s h a b =
     let o = trace-opens s h in
     let n : ℕ = dimension s in
     let φ : Field = fieldOf s in
+    let pos : 0 < n = omega (arith, opens-range o .low) in
     let t : Tracable n φ (startOf s) = start-tracable s h in
     let u : Tracable n φ (turn (startOf s)) = turn-tracable n φ (startOf s) t in
-    let d : GridDemand3 n φ (startOf s) a b = grid-demand3 n φ (omega (arith, opens-range o .low)) (startOf s) t a b in
-    let first : Trace Place Stop = trace (stepIn s) sameSpot (startOf s) a in
+    let d : GridDemand3 n φ (startOf s) a b = grid-demand3 n φ pos (startOf s) t a b in
+    let e : GridDemand3 n φ (turn (startOf s)) b a = grid-demand3 n φ pos (turn (startOf s)) u b a in
     record {
-      first = first;
+      first = trace (stepIn s) sameSpot (startOf s) a;
       second = trace (stepIn s) sameSpot (turn (startOf s)) b;
       first-answered = start-traced s h a;
       second-answered = withStart-traced o (turn (startOf s)) u b;
       first-steps = step-after-step o (startOf s) t a;
       second-steps = step-after-step o (turn (startOf s)) u b;
-      reversed = λ l z e.
-          let listed : z ∈ first .places = subst (λ m. z ∈ m) (sym e) (Memᴰ·append-right l (List·Memᴰ·head refl)) in
-          let v : Tracable n φ (turn z) = turn-tracable n φ z (listed-tracable o (startOf s) t a z listed) in
-          record {
-            back = trace (stepIn s) sameSpot (turn z) (length (first .places));
-            back-answered = withStart-traced o (turn z) v (length (first .places));
-            same-places = d .reversed l z e;
-          };
+      reversed = reversed-from o (startOf s) t a;
+      second-reversed = reversed-from o (turn (startOf s)) u b;
       no-repeat = d .no-repeat;
+      second-no-repeat = e .no-repeat;
       joined = d .joined;
+      second-joined = e .joined;
       first-enough = d .first-enough;
       second-enough = d .second-enough;
       neither-full = d .neither-full;

@@ -1,8 +1,7 @@
 -- The customer's third demand, about what Trace answers from the bytes of a job, sentence by sentence. Joined facets, a
 -- curve that closes and the number of its facets are those of the paper's section "Crossed", in the crate curves; nothing in
 -- them speaks of steps. `Demand3 s a b` is about the job s, its trace with space a, and that from the start turned with
--- space b. A trace from another place is the trace of the same job with that place as its start: Trace refuses that job no
--- more than s, so what is said of one trace holds of the other too.
+-- space b. A trace from another place is the trace of the same job with that place as its start.
 use Prim.Native.Nat.{ℕ, suc, zero, _*_, _≤_, _<_}
 use mathlib.Core.Path.{_≡_}
 use mathlib.Core.List.{List, [], _∷_, _++_, map, reverse}
@@ -78,9 +77,12 @@ pub record Demand3 (s : List ℕ) (a b : ℕ) : Type 0 where
   -- If the trace lists a place at all, the trace from its last place turned, with space for just as many, lists the same
   -- places in reverse down to the start, each turned.
   pub reversed : (l : List Place) (z : Place) → first .places ≡ l ++ (z ∷ []) → Reversed s first z
+  pub second-reversed : (l : List Place) (z : Place) → second .places ≡ l ++ (z ∷ []) → Reversed s second z
   -- No facet stands in a trace twice, and each is joined to the start's.
   pub no-repeat : NoDup (facetsOf first)
+  pub second-no-repeat : NoDup (facetsOf second)
   pub joined : (f : Facet) → f ∈ facetsOf first → InCurve s f
+  pub second-joined : (f : Facet) → f ∈ facetsOf second → InCurve s f
   -- Neither is full if its space is at least the number of facets in the curve of the start's facet.
   pub first-enough : (k : ℕ) → CurveHas s k → k ≤ a → ¬ (first .verdict ≡ full)
   pub second-enough : (k : ℕ) → CurveHas s k → k ≤ b → ¬ (second .verdict ≡ full)
