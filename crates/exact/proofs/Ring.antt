@@ -70,11 +70,6 @@ sub-self a = sub-eq a a ∙ add-neg a
 pub add-swap-right : (a b c : ℤ) → (a ⊕ b) ⊕ c ≡ (a ⊕ c) ⊕ b
 add-swap-right a b c = add-assoc a b c ∙ ap (λ x. a ⊕ x) (add-comm b c) ∙ sym (add-assoc a c b)
 
--- (a + b) + (c + d) = (a + c) + (b + d)
-pub add-interchange : (a b c d : ℤ) → (a ⊕ b) ⊕ (c ⊕ d) ≡ (a ⊕ c) ⊕ (b ⊕ d)
-add-interchange a b c d =
-    sym (add-assoc (a ⊕ b) c d) ∙ ap (λ x. x ⊕ d) (add-swap-right a b c) ∙ add-assoc (a ⊕ c) b d
-
 -- ---- the product
 pub mul-comm : (a b : ℤ) → a ⊗ b ≡ b ⊗ a
 unfolding _⊗_
@@ -161,16 +156,3 @@ mul-assoc a b c = up-down (λ x. (x ⊗ b) ⊗ c ≡ x ⊗ (b ⊗ c)) start up d
     down : (x : ℤ) → (x ⊗ b) ⊗ c ≡ x ⊗ (b ⊗ c) → (predℤ x ⊗ b) ⊗ c ≡ predℤ x ⊗ (b ⊗ c)
     down x h =
         ap (λ y. y ⊗ c) (pred-mul x b) ∙ distrib-right (x ⊗ b) (neg b) c ∙ ap (λ y. y ⊕ neg b ⊗ c) h ∙ ap (λ y. x ⊗ (b ⊗ c) ⊕ y) (neg-mul b c) ∙ sym (pred-mul x (b ⊗ c))
-
--- ---- differences
-pub distrib-left-sub : (a b c : ℤ) → a ⊗ (b ⊖ c) ≡ a ⊗ b ⊖ a ⊗ c
-distrib-left-sub a b c =
-    ap (λ x. a ⊗ x) (sub-eq b c) ∙ distrib-left a b (neg c) ∙ ap (λ x. a ⊗ b ⊕ x) (mul-neg a c) ∙ sym (sub-eq (a ⊗ b) (a ⊗ c))
-
-pub distrib-right-sub : (a b c : ℤ) → (a ⊖ b) ⊗ c ≡ a ⊗ c ⊖ b ⊗ c
-distrib-right-sub a b c =
-    ap (λ x. x ⊗ c) (sub-eq a b) ∙ distrib-right a (neg b) c ∙ ap (λ x. a ⊗ c ⊕ x) (neg-mul b c) ∙ sym (sub-eq (a ⊗ c) (b ⊗ c))
-
-pub neg-sub : (a b : ℤ) → neg (a ⊖ b) ≡ b ⊖ a
-neg-sub a b =
-    ap neg (sub-eq a b) ∙ neg-sum a (neg b) ∙ ap (λ x. neg a ⊕ x) (neg-neg b) ∙ add-comm (neg a) b ∙ sym (sub-eq b a)

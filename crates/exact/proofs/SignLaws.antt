@@ -66,9 +66,6 @@ sign-nought (pos zero) h = refl
 sign-nought (pos (suc n)) h = cc
 sign-nought (negsuc n) h = cc
 
-pub sign-nought-iff : (a : ℤ) → (sign a ≡ nought) ↔ (a ≡ 0ℤ)
-sign-nought-iff a = (sign-nought a, λ h. ap sign h ∙ sign-zero)
-
 -- ---- sums
 pub sign-add-same : (s : Sign) (a b : ℤ) → sign a ≡ s → sign b ≡ s → sign (a ⊕ b) ≡ s
 unfolding sign _⊕_

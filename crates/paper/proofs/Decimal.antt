@@ -86,11 +86,6 @@ pub decimal-tenth-short : (a : ℕ) → 10 ≤ a → a < 10 ^ 20 → length (dec
 decimal-tenth-short a h l =
     rw (decimal-digits a h l, length-append) at (decimal-short a)
 
-pub signed-short : (z : ℤ) → length (signedDecimal z) ≤ 21
-unfolding signedDecimal
-signed-short (pos a) = omega (arith, decimal-short a)
-signed-short (negsuc a) = omega (arith, decimal-short (suc a))
-
 -- ---- the numbers of a line
 
 pub blank-append : (u v : List ℤ) → blankNumbers (u ++ v) ≡ blankNumbers u ++ blankNumbers v

@@ -68,11 +68,6 @@ unfolding unless
 answered-inv zero a b h = record { none = refl; is = cc }
 answered-inv (suc k) a b h = let z : _≡_ {A = ℕ} 0 1 = cc in absurd (omega arith)
 
-pub refused-inv : {A : Type 0} (k : ℕ) (a : A) (l : ℕ) → unless k a ≡ refused l → (k ≡ l) × (0 < l)
-unfolding unless
-refused-inv zero a l h = let z : _≡_ {A = ℕ} 0 1 = cc in absurd (omega arith)
-refused-inv (suc k) a l h = let e : suc k ≡ l = cc in (e, omega arith)
-
 pub part-refused : (k : ℕ) (b : List ℕ) → (k ≡ 0 → ⊥) → partUnless k b ≡ []
 unfolding partUnless
 part-refused zero b h = absurd (h refl)
