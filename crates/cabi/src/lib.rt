@@ -1,7 +1,7 @@
 // The C interface: each function hands on what an operation of document 01 answers, as a struct of numbers. A slice is a pointer and a
 // length. Refusal 0 is none; beside a refusal, and where an answer does not use a field, the field is 0.
 
-use job::read;
+use bits::read;
 use paper::Judged;
 use paper::Opened;
 use paper::PenMove;

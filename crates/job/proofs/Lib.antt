@@ -1,9 +1,2 @@
--- Laws that the proofs of the functions cite, a file for each idea.
-pub mod SignedBits
-pub mod MaskBits
-pub mod RangeSteps
-pub mod EntrySteps
-pub mod ChainSteps
-pub mod AxisAndTerm
-pub mod TermLimit
+-- Laws that the proofs of the functions cite.
 pub mod OpenSteps

@@ -1,4 +1,2 @@
--- What the contracts of the readers say, beside the definitions of the crate paper.
-pub mod Read
-pub mod Parts
+-- Parts of the definition of Open's refusal, beside the definitions of the crate paper.
 pub mod BodyTests

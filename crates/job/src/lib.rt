@@ -1,15 +1,11 @@
 // Open and Body of document 01: a job's bytes tested in the paper's order, and the parts of a job that opens.
 
-// Little-endian numbers in a list of bytes.
-pub mod read;
-// Flat or bent, and the axes of masks.
-mod boxes;
-mod contents;
-mod limits;
-pub mod masks;
-mod places;
-mod terms;
-
+use bits::read;
+use bodies::boxes;
+use bodies::contents;
+use bodies::limits;
+use bodies::places;
+use bodies::terms;
 use paper::Opened;
 ghost use mathlib.Core.Path.{_≡_};
 ghost use mathlib.Core.Bool.{true, false};
@@ -20,29 +16,7 @@ ghost use Rattle.paper.specs.Limits.{dimensionOk};
 ghost use Rattle.paper.specs.Job.{dimension, body, contentsOk, allFrom, polynomialOk, decodePlace, openRefusal};
 ghost use Rattle.paper.specs.Operations.{opened, polynomialTerms, bodyRefusal, bodyPart};
 ghost use Rattle.paper.specs.Answers.{openedAs};
-ghost use Rattle.job.specs.Parts.{PartInside};
 ghost use Rattle.job.specs.BodyTests.{bodiesRefusal};
-
-// A place of 3n bytes: each mask strictly holds the one before, and the side is 0 or 1.
-pub fn place_ok(n: usize, p: &[u8]) -> bool
-    requires { ⌜ (dimensionOk n ≡ true) × (length (now p) ≡ 3 * n) ⌝ }
-    ensures { λ r. ⌜ r ≡ placeOk n (decodePlace n (now (p .entry))) ⌝ }
-{
-    if !places::chain_ok(n, p) {
-        return false;
-    }
-    read::byte(p, 3 * n - 1) < 2
-}
-
-// Body k of a job whose contents place it inside the job.
-fn part_of(job: &[u8], k: usize) -> &[u8]
-    requires { ⌜ PartInside (now job) k ⌝ }
-    ensures { λ r. ⌜ now r ≡ body (now (job .entry)) k ⌝ }
-{
-    let from = contents::entry_offset(job, k);
-    let to = from + contents::entry_length(job, k);
-    &job[from..to]
-}
 
 // Every polynomial's terms are right and rise.
 fn polynomials_ok(n: usize, job: &[u8]) -> bool
@@ -51,7 +25,7 @@ fn polynomials_ok(n: usize, job: &[u8]) -> bool
 {
     let mut k = 1;
     while k < n {
-        if !terms::polynomial_ok(n, part_of(job, k)) {
+        if !terms::polynomial_ok(n, contents::part_of(job, k)) {
             return false;
         }
         k += 1;
@@ -67,13 +41,13 @@ fn bodies_refusal(n: usize, job: &[u8]) -> u64
     if !contents::contents_ok(n, job) {
         return 5;
     }
-    if !boxes::box_ok(n, part_of(job, 0)) {
+    if !boxes::box_ok(n, contents::part_of(job, 0)) {
         return 6;
     }
     if !polynomials_ok(n, job) {
         return 7;
     }
-    if !place_ok(n, part_of(job, n)) {
+    if !places::place_ok(n, contents::part_of(job, n)) {
         return 8;
     }
     0
@@ -115,7 +89,7 @@ pub fn opened_body(job: &[u8], k: usize) -> &[u8]
     requires { ⌜ (openRefusal (now job) ≡ 0) × (k ≤ dimension (now job)) ⌝ }
     ensures { λ r. ⌜ now r ≡ body (now (job .entry)) k ⌝ }
 {
-    part_of(job, k)
+    contents::part_of(job, k)
 }
 
 // The count of terms of polynomial k of a job that opens; 0 if it has no such polynomial.

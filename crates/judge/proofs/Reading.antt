@@ -14,7 +14,7 @@ use Rattle.paper.specs.Bytes.{byte, signedWord}
 use Rattle.paper.specs.Job.{decodePlace}
 use Rattle.paper.specs.Answers.{padded, placedAs, paddedPlace}
 use Rattle.paper.specs.declared.Placed.{Placed}
-use Rattle.job.specs.Read.{Reads, SignedReads}
+use Rattle.bits.specs.Read.{Reads, SignedReads}
 use Rattle.judge.specs.Located.{PlaceRead}
 use Rattle.judge.proofs.Padded.{placed-facet}
 

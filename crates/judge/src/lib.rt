@@ -1,7 +1,8 @@
 // Judge and Point of document 01, and what Step and Pen share with them: a job and a place handed over as bytes, with the
 // refusals 13, 9, 10 and 11 in the paper's order.
 
-use job::read;
+use bits::read;
+use bodies::places;
 use paper::Judged;
 use paper::Placed;
 use paper::Pointed;
@@ -81,7 +82,7 @@ pub fn place_in(job: &[u8], n: usize, p: &[u8]) -> JobPlace
     if p.len() != 3 * n {
         return refused(13);
     }
-    if !job::place_ok(n, p) {
+    if !places::place_ok(n, p) {
         return refused(13);
     }
     let place = read_place(n, p);

@@ -5,7 +5,7 @@ ghost use Prim.Native.Nat.{_-_, _≤_, _<_};
 ghost use Rattle.simplices.specs.Table.{InTable, axisAt};
 ghost use Rattle.simplices.specs.Shapes.{kept, lastOf, sideAt, facetMask, IsShape};
 use crate::orders;
-use job::masks;
+use bits::masks;
 
 // Masks and side of a facet; mask2 is 0 in dimension 2.
 pub struct Shape {

@@ -20,7 +20,7 @@ use Rattle.paper.specs.Bytes.{wordOf, wordBytes}
 use Rattle.paper.specs.Cells.{lowVertex}
 use Rattle.paper.specs.Job.{encodePlace}
 use Rattle.paper.specs.declared.Placed.{Placed}
-use Rattle.job.specs.Read.{Reads}
+use Rattle.bits.specs.Read.{Reads}
 use Rattle.values.specs.declared.Vertex.{Vertex}
 use Rattle.values.specs.Vertices.{VertexSize}
 use Rattle.simplices.specs.Table.{orderAt}

@@ -10,9 +10,9 @@ ghost use Rattle.paper.specs.Limits.{dimensionOk};
 ghost use Rattle.paper.specs.Bytes.{wordOf, wordBytes};
 ghost use Rattle.paper.specs.Job.{encodePlace};
 ghost use Rattle.paper.specs.Operations.{sameSpot};
-ghost use Rattle.job.specs.Read.{Reads};
+ghost use Rattle.bits.specs.Read.{Reads};
 ghost use Rattle.tracer.specs.Held.{heldPlace, FitsBytes};
-use job::read;
+use bits::read;
 use paper::Placed;
 
 // The 16 bits of a coordinate.

@@ -21,7 +21,7 @@ use Rattle.paper.proofs.Tests.{and-left, and-right, two-or-three, dimension-ran
 use Rattle.paper.proofs.Terms.{box-axis, between-size}
 use Rattle.values.specs.declared.Vertex.{Vertex}
 use Rattle.values.specs.Vertices.{vertexAs, axisInside, Near}
-use Rattle.job.specs.Read.{SignedReads}
+use Rattle.bits.specs.Read.{SignedReads}
 use Rattle.values.proofs.Machine.{is-number}
 use Rattle.values.proofs.Monomials.{vertex-two, vertex-three}
 

@@ -11,7 +11,7 @@ ghost use Rattle.paper.specs.Values.{insideFrom};
 ghost use Rattle.values.specs.Vertices.{vertexAs, axisInside, VertexSize};
 ghost use Rattle.values.specs.Post.{Is, Shifted, Raised};
 use crate::Vertex;
-use job::read;
+use bits::read;
 
 // A coordinate moved by the lowest bit of a mask.
 fn moved(x: i64, mask: u64) -> i64

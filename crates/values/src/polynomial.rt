@@ -8,7 +8,7 @@ ghost use Rattle.values.specs.Vertices.{vertexAs, Near};
 ghost use Rattle.values.specs.Ask.{Polynomial};
 ghost use Rattle.values.specs.Post.{Is};
 use crate::Vertex;
-use job::read;
+use bits::read;
 
 // x to the power e; the power 0 of 0 is 1.
 fn power(x: i64, e: u64) -> i64

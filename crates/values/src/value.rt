@@ -3,7 +3,7 @@ ghost use mathlib.Core.Path.{_≡_};
 ghost use Prim.Native.Nat.{_^_};
 ghost use Rattle.exact.specs.Size.{Size};
 ghost use Rattle.paper.specs.Values.{readableSum, valueOf};
-use job::read;
+use bits::read;
 
 // A sum is readable from − 2 ^ 28 to 2 ^ 28, in every dimension.
 pub fn readable(n: usize, z: i64) -> bool

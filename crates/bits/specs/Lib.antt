@@ -1,0 +1,2 @@
+-- What the contracts of the readers say, beside the definitions of the crate paper.
+pub mod Read

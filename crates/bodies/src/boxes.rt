@@ -1,0 +1,37 @@
+// The box: per axis a low and a high end.
+
+use crate::limits;
+use bits::read;
+ghost use mathlib.Core.Path.{_≡_};
+ghost use Prim.Native.Nat.{_+_, _*_, _≤_};
+ghost use lib.ListN.{length};
+ghost use Rattle.paper.specs.Job.{axisOk, boxOk};
+
+// Both ends are within the limits, low under high.
+fn axis_ok(b: &[u8], a: usize) -> bool
+    requires { ⌜ 4 * a + 4 ≤ length (now b) ⌝ }
+    ensures { λ r. ⌜ r ≡ axisOk (now (b .entry)) a ⌝ }
+{
+    let low = read::signed_word(b, 4 * a);
+    let high = read::signed_word(b, 4 * a + 2);
+    if limits::LOWEST <= low {
+        if low < high {
+            return high <= limits::HIGHEST;
+        }
+    }
+    false
+}
+
+pub fn box_ok(n: usize, b: &[u8]) -> bool
+    requires { ⌜ length (now b) ≡ 4 * n ⌝ }
+    ensures { λ r. ⌜ r ≡ boxOk n (now (b .entry)) ⌝ }
+{
+    let mut a = 0;
+    while a < n {
+        if !axis_ok(b, a) {
+            return false;
+        }
+        a += 1;
+    }
+    true
+}
