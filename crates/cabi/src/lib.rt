@@ -186,7 +186,7 @@ fn without_place(refusal: u64, outcome: u64) -> StepAnswer
 pub extern "C" fn gethwapiko_step(job: &[u8], place: &[u8]) -> StepAnswer
     ensures { λ r. ⌜ r ≡ stepNumbers (stepped (now (job .entry)) (now (place .entry))) ⌝ }
 {
-    match tracer::step(job, place) {
+    match steps::step(job, place) {
         Stepped::Refused(refusal) => without_place(refusal, 0),
         Stepped::Edge => without_place(0, 1),
         Stepped::Limit => without_place(0, 2),

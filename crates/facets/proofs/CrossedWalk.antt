@@ -8,7 +8,7 @@ use lib.IntN.{ℤ}
 use Rattle.exact.specs.Sign.{Sign, negative, nought, positive, sign, orElse, lexSign, sameSign}
 use Rattle.exact.specs.Det.{Column, determinant}
 use Rattle.exact.specs.Crossed.{countFrom, coefficient, coefficients, allHaveSign, crossed}
-use Rattle.facets.specs.Cells.{signNumber}
+use Rattle.facets.specs.Signs.{signNumber}
 use Rattle.facets.proofs.SignNumber.{sameSign-number, sameSign-numbers-differ}
 
 countFrom-next : (k n : ℕ) → k < n → countFrom k (n - k) ≡ k ∷ countFrom (k + 1) (n - (k + 1))

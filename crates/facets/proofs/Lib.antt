@@ -1,13 +1,3 @@
--- Laws of the cells of a facet, for the proofs of the functions.
-pub mod Dimension
-pub mod ClosedForms
-pub mod DeterminantSteps
+-- Laws of signs and of the walk over the vertices, for the proofs of the functions.
 pub mod SignNumber
-pub mod UnitColumn
 pub mod CrossedWalk
-pub mod Doubling
-pub mod AbsoluteValue
-pub mod WeightSums
-pub mod Rounded
-pub mod Shares
-pub mod PointSteps

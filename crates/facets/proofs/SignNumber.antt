@@ -11,7 +11,7 @@ use mir.Val.{SFits}
 use mir.ValLaws.{toZ-ofZ}
 use Rattle.exact.specs.Sign.{Sign, negative, nought, positive, sign, sameSign}
 use Rattle.exact.proofs.Bits.{back}
-use Rattle.facets.specs.Cells.{signNumber}
+use Rattle.facets.specs.Signs.{signNumber}
 
 module _ (x : ℤ) (fits : SFits w64 x) where
   above : (y : ℤ) → ltZ (pos 0) y ≡ true → 1 ≡ signNumber (sign y)

@@ -1,2 +1,2 @@
--- The cells of a facet: nine numbers in one array, and the columns, masks and lowest vertex that the code reads from its arguments.
-pub mod Cells
+-- What the contracts of this crate cite, beside the definitions of the crates below.
+pub mod Signs

@@ -25,8 +25,9 @@ use Rattle.paper.specs.declared.Placed.{Placed}
 use Rattle.paper.proofs.Refusals.{refuse-here, refuse-later, first-refuses, first-passes}
 use Rattle.paper.proofs.Opens.{opens}
 use Rattle.judge.specs.declared.JobPlace.{JobPlace}
-use Rattle.values.specs.declared.Vertex.{Vertex}
-use Rattle.values.specs.Vertices.{vertexAs, facetAs, VertexSize}
+use Rattle.vertices.specs.declared.Vertex.{Vertex}
+use Rattle.vertices.specs.Vertices.{vertexAs, VertexSize}
+use Rattle.values.specs.Columns.{facetAs}
 use Rattle.values.specs.Ask.{JobOf}
 use Rattle.values.specs.Post.{FacetFound}
 use Rattle.judge.specs.Located.{placedFacet, PlaceSize, PlaceRead, Finds, PlaceFound, Locates, Crosses}

@@ -6,7 +6,7 @@ use bodies::places;
 use paper::Judged;
 use paper::Placed;
 use paper::Pointed;
-use values::Vertex;
+use vertices::Vertex;
 ghost use mathlib.Core.Path.{_≡_};
 ghost use mathlib.Core.Bool.{true};
 ghost use Prim.Native.Nat.{_*_};
@@ -153,5 +153,5 @@ pub fn point(job: &[u8], place: &[u8]) -> Pointed
     }
     let at = here.place;
     let cols = here.cols;
-    Pointed::At(facets::point(here.n, at.x, at.y, at.z, cols, at.mask1, at.mask2))
+    Pointed::At(points::point(here.n, at.x, at.y, at.z, cols, at.mask1, at.mask2))
 }

@@ -22,8 +22,8 @@ use Rattle.paper.proofs.Tests.{and-left, and-right}
 use Rattle.paper.proofs.Refusals.{first-passes, refuse-later}
 use Rattle.paper.proofs.Opens.{Opens}
 use Rattle.paper.proofs.WithStart.{opens-back}
-use Rattle.text.specs.Written.{Writes}
-use Rattle.text.proofs.WrittenParts.{writes-nothing}
+use Rattle.decimals.specs.Written.{Writes}
+use Rattle.decimals.proofs.WrittenParts.{writes-nothing}
 use Rattle.listing.specs.Shown.{lineOf, LineAsked, AllShown, PlacesAsked}
 
 -- ---- the first place and the rest

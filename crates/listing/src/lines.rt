@@ -6,7 +6,7 @@ ghost use lib.ListN.{length};
 ghost use Rattle.paper.specs.Listing.{placeLines, listingLines, listingSpace, listing};
 ghost use Rattle.paper.specs.Operations.{answered, traced};
 ghost use Rattle.paper.specs.Demand3.{readPlaces};
-ghost use Rattle.text.specs.Written.{Writes};
+ghost use Rattle.decimals.specs.Written.{Writes};
 ghost use Rattle.listing.specs.Listed.{listedTrace, listedAs};
 ghost use Rattle.listing.specs.Shown.{lineOf, LineAsked, PlacesAsked};
 use paper::Pointed;

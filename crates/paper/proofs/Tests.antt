@@ -83,3 +83,6 @@ dimension-range n h = go (two-or-three n h)
     go : (n ≡ 2) ⊎ (n ≡ 3) → DimensionRange n
     go (inl e) = record { low = omega arith; high = omega arith }
     go (inr e) = record { low = omega arith; high = omega arith }
+
+pub dimension-not-two : (n : ℕ) → dimensionOk n ≡ true → (n ≡ 2 → ⊥) → n ≡ 3
+dimension-not-two n h k = let r = dimension-range n h in omega arith

@@ -28,9 +28,9 @@ use Rattle.paper.proofs.Tests.{and-left, and-right, and-true}
 use Rattle.paper.proofs.Refusals.{neither-refused, not-refused}
 use Rattle.paper.proofs.Opens.{Opens, opens}
 use Rattle.paper.proofs.StartTracable.{tracable-limited}
-use Rattle.facets.specs.Cells.{Share}
-use Rattle.facets.proofs.Shares.{crossed-share}
-use Rattle.facets.proofs.Rounded.{share-is, share-most}
+use Rattle.points.specs.Shares.{Share}
+use Rattle.points.proofs.Shares.{crossed-share}
+use Rattle.points.proofs.Rounded.{share-is, share-most}
 
 -- ---- what Point does not refuse
 

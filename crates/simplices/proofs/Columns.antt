@@ -16,11 +16,11 @@ use Rattle.exact.specs.Size.{Size}
 use Rattle.exact.proofs.SizeLaws.{size-weaken}
 use Rattle.exact.specs.Crossed.{countFrom, remove}
 use Rattle.paper.specs.Cells.{columnAt, columnList, FacetCells}
-use Rattle.facets.proofs.Dimension.{dimension-le-three}
+use Rattle.paper.proofs.Tests.{dimension-range}
 use Rattle.paper.specs.Limits.{readableLimit}
-use Rattle.simplices.specs.Shapes.{kept}
+use Rattle.orders.specs.Shapes.{kept}
 use Rattle.simplices.specs.Exits.{simplexColumns, SimplexCells, CellsFit, source, Without}
-use Rattle.simplices.proofs.FacetMasks.{kept-before, kept-behind, kept-bounds}
+use Rattle.orders.proofs.FacetMasks.{kept-before, kept-behind, kept-bounds}
 
 -- ---- where a cell comes from
 
@@ -89,7 +89,7 @@ remove-count f k (suc q) (suc m) l =
 
 module _ (n q : ℕ) (cells r : List ℤ) (s : SimplexCells n cells) (l : q ≤ n) (w : Without q cells r) where
   three : n ≤ 3
-  three = dimension-le-three n (s .dimension)
+  three = dimension-range n (s .dimension) .high
 
   column-is : (i : ℕ) → i < n → columnAt n r i ≡ columnAt n cells (kept q i)
   unfolding columnAt

@@ -11,7 +11,7 @@ use Rattle.exact.specs.Crossed.{countFrom, crossed, remove, exit}
 use Rattle.exact.specs.Simplex.{IsSimplex}
 use Rattle.exact.proofs.Simplex.{exit-only-other}
 use Rattle.paper.specs.Cells.{columnAt}
-use Rattle.facets.proofs.Dimension.{dimension-ge-two}
+use Rattle.paper.proofs.Tests.{dimension-range}
 use Rattle.simplices.specs.Exits.{simplexColumns, SimplexCells}
 
 length-count : {A : Type 0} (f : ℕ → A) (k m : ℕ) → length (map f (countFrom k m)) ≡ m
@@ -32,7 +32,7 @@ module _ (n : ℕ) (cells : List ℤ) (s : SimplexCells n cells) where
       record { large = positive; size = length-count (columnAt n cells) 0 (suc n); ones = top }
     where
       positive : 0 < n
-      positive = omega (arith, dimension-ge-two n (s .dimension))
+      positive = omega (arith, dimension-range n (s .dimension) .low)
 
       top : (p : ℕ) → p ≤ n → getD (getD (map (columnAt n cells) (countFrom 0 (suc n))) p []) 0 0ℤ ≡ 1ℤ
       top p l =

@@ -15,12 +15,12 @@ use Rattle.curves.proofs.IncidenceOk.{place-form}
 use Rattle.curves.proofs.IncidenceOf.{Valid, incidence-ok, place-incidence}
 use Rattle.curves.proofs.Orders.{orders-complete}
 use Rattle.paper.specs.Limits.{dimensionOk}
-use Rattle.facets.proofs.Dimension.{dimension-cases}
-use Rattle.simplices.specs.Table.{orderAt, InTable}
-use Rattle.simplices.specs.Shapes.{masksAt, sideAt}
+use Rattle.paper.proofs.Tests.{two-or-three}
+use Rattle.orders.specs.Table.{orderAt, InTable}
+use Rattle.orders.specs.Shapes.{masksAt, sideAt}
 use Rattle.simplices.specs.Corners.{cornerUnder, lowOver}
 use Rattle.simplices.specs.Search.{matches, placed, Found}
-use Rattle.simplices.proofs.Rows.{row-order, dimension-small}
+use Rattle.orders.proofs.Rows.{row-order, dimension-small}
 use Rattle.simplices.proofs.Anywhere.{place-anywhere, low-corner}
 use Rattle.simplices.proofs.Matching.{matches-masks, matches-side, matches-of}
 
@@ -78,7 +78,7 @@ module _ (n : ℕ) (d : dimensionOk n ≡ true) (ms : List ℕ) (s : ℕ) (k : s
   pub some-match : ((row : ℕ) → row < length (orders n) → (out : ℕ) → out ≤ n → matches n row out ms s ≡ false) → ⊥
   unfolding masksAt sideAt orderAt
   some-match none =
-      let (row, b, e) = listed-at (simplex .order) (orders n) (orders-complete n (dimension-cases n d) (simplex .order) (valid .is-order)) in
+      let (row, b, e) = listed-at (simplex .order) (orders n) (orders-complete n (two-or-three n d) (simplex .order) (valid .is-order)) in
       false≢true
       (sym (none row b (simplex .out) (valid .out-bound))
       ∙ matches-of n row (simplex .out) ms s

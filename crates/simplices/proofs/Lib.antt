@@ -1,9 +1,4 @@
 -- Laws that the proofs of the functions cite, a file for each idea.
-pub mod Tested
-pub mod Rows
-pub mod VertexMasks
-pub mod FacetMasks
-pub mod FacetSides
 pub mod Anywhere
 pub mod Matching
 pub mod Finding

@@ -13,11 +13,11 @@ use Rattle.curves.proofs.OrderTests.{and-left, and-right, both}
 use Rattle.curves.proofs.SameFacet.{sameMasks-sound, sameMasks-complete}
 use Rattle.paper.specs.Answers.{padded}
 use Rattle.paper.specs.Cells.{maskList}
-use Rattle.facets.proofs.Dimension.{dimension-cases}
-use Rattle.simplices.specs.Table.{orderAt, InTable}
-use Rattle.simplices.specs.Shapes.{masksAt, sideAt, IsShape}
+use Rattle.paper.proofs.Tests.{two-or-three}
+use Rattle.orders.specs.Table.{orderAt, InTable}
+use Rattle.orders.specs.Shapes.{masksAt, sideAt, IsShape}
 use Rattle.simplices.specs.Search.{matches}
-use Rattle.simplices.proofs.Tested.{passes}
+use Rattle.orders.proofs.Tested.{passes}
 
 -- ---- the test and what it says
 
@@ -71,7 +71,7 @@ module _ (n row out : ℕ) (h : InTable n row) (l : out ≤ n) (a b t : ℕ) (q 
   three e = compared ∙ ap (λ m. sameMasks (maskList m a b) (maskList m c d) && eqb t s) e
 
   pub first-differs : (a ≡ c → ⊥) → false ≡ matches n row out (maskList n c d) s
-  first-differs e = go (dimension-cases n (h .dimension))
+  first-differs e = go (two-or-three n (h .dimension))
     where
       go : (n ≡ 2) ⊎ (n ≡ 3) → false ≡ matches n row out (maskList n c d) s
       go (inl p) = sym (two p ∙ rw (ne-eqb a c e))

@@ -11,8 +11,8 @@ use Rattle.curves.specs.Grid.{Vertex, placeAt, turn}
 use Rattle.curves.proofs.IncidenceOk.{side-of-under}
 use Rattle.paper.specs.Cells.{lowVertex}
 use Rattle.paper.specs.Answers.{padded, paddedPlace}
-use Rattle.simplices.specs.Table.{orderAt}
-use Rattle.simplices.specs.Shapes.{masksAt, sideAt, IsShape}
+use Rattle.orders.specs.Table.{orderAt}
+use Rattle.orders.specs.Shapes.{masksAt, sideAt, IsShape}
 use Rattle.simplices.specs.Corners.{lowOver, CornerIs}
 use Rattle.simplices.specs.Search.{placed}
 use Rattle.simplices.proofs.Anywhere.{place-anywhere}

@@ -1,6 +1,4 @@
 -- What the contracts of the simplices' functions cite, beside the definitions of the crates below.
-pub mod Table
-pub mod Shapes
 pub mod Search
 pub mod Corners
 pub mod Exits

@@ -7,8 +7,8 @@ use mathlib.Core.List.{List}
 use lib.ListN.{length}
 use lib.Dec.{eqb}
 use Rattle.curves.specs.Grid.{Vertex, Place, sameMasks, orders, incidence}
-use Rattle.simplices.specs.Table.{orderAt}
-use Rattle.simplices.specs.Shapes.{masksAt, sideAt}
+use Rattle.orders.specs.Table.{orderAt}
+use Rattle.orders.specs.Shapes.{masksAt, sideAt}
 use Rattle.simplices.specs.Corners.{cornerUnder}
 
 -- the facet without vertex `out` has these masks and this side

@@ -7,10 +7,10 @@ ghost use Rattle.exact.specs.Size.{Size};
 ghost use Rattle.curves.specs.Grid.{placeAt, turn};
 ghost use Rattle.paper.specs.Cells.{lowVertex};
 ghost use Rattle.paper.specs.Answers.{placedAs, paddedPlace};
-ghost use Rattle.simplices.specs.Table.{InTable, orderAt};
+ghost use Rattle.orders.specs.Table.{InTable, orderAt};
 ghost use Rattle.simplices.specs.Corners.{addOn, cornerUnder, lowOver, Sizes, CornerIs};
-use crate::orders;
-use crate::shapes;
+use orders::table;
+use orders::shapes;
 use paper::Placed;
 
 // A vertex; z is of no account in dimension 2.
@@ -53,7 +53,7 @@ pub fn corner_of(n: usize, x: i64, y: i64, z: i64, row: usize, out: usize) -> Co
 {
     let low = Corner { x, y, z };
     if out == 0 {
-        return moved(low, orders::axis(n, row, 0), -1);
+        return moved(low, table::axis(n, row, 0), -1);
     }
     low
 }
@@ -64,7 +64,7 @@ pub fn lowest(n: usize, c: Corner, row: usize, out: usize) -> Corner
     ensures { λ r. ⌜ CornerIs 131074 n (lowOver (lowVertex n (c .x) (c .y) (c .z)) (orderAt n row) out) (r .x) (r .y) (r .z) ⌝ }
 {
     if out == 0 {
-        return moved(c, orders::axis(n, row, 0), 1);
+        return moved(c, table::axis(n, row, 0), 1);
     }
     c
 }

@@ -8,9 +8,9 @@ ghost use lib.ListN.{length};
 ghost use Rattle.curves.specs.Grid.{chain, orders};
 ghost use Rattle.paper.specs.Cells.{maskList};
 ghost use Rattle.paper.specs.Limits.{dimensionOk};
-ghost use Rattle.simplices.specs.Table.{InTable};
+ghost use Rattle.orders.specs.Table.{InTable};
 ghost use Rattle.simplices.specs.Search.{matches, FoundOut, Found};
-use crate::shapes;
+use orders::shapes;
 
 // A row of the table, and the index of the vertex left out.
 pub struct Incident {

@@ -1,3 +1,2 @@
--- What the contracts of the listing's text cite: a text written into a buffer, and the facet whose numbers a line shows.
-pub mod Written
+-- What the contracts of this crate cite: the facet whose numbers a line shows.
 pub mod Lines

@@ -1,10 +1,3 @@
 -- Laws that the functions' proofs cite, a file for each idea.
-pub mod HeldPlaces
-pub mod Stores
-pub mod Kept
-pub mod SameSpot
-pub mod Found
-pub mod RowOrder
-pub mod Stepping
 pub mod Tracing
-pub mod Answering
+pub mod TraceAnswers

@@ -22,11 +22,11 @@ use Rattle.paper.specs.declared.Verdict as Verdict
 use Rattle.paper.specs.declared.Traced as Traced
 use Rattle.paper.proofs.Encode.{encode-length}
 use Rattle.tracer.specs.declared.walks.Visited as Code
-use Rattle.tracer.specs.Held.{heldPlace, Held}
-use Rattle.tracer.specs.Ahead.{Leads}
+use Rattle.places.specs.Held.{heldPlace, Held}
+use Rattle.steps.specs.Ahead.{Leads}
 use Rattle.tracer.specs.Visited.{GoesOn, VisitedIs, Visits, traceOver, Walks}
-use Rattle.tracer.proofs.HeldPlaces.{job-range}
-use Rattle.tracer.proofs.Stores.{sets-append, encodePlaces-snoc}
+use Rattle.places.proofs.HeldPlaces.{job-range}
+use Rattle.places.proofs.Stores.{sets-append, encodePlaces-snoc}
 
 -- ---- one turn
 

@@ -14,7 +14,7 @@ use Rattle.paper.specs.Answers.{verdictAs, tracedAs}
 use Rattle.paper.specs.declared.Placed.{Placed}
 use Rattle.paper.specs.declared.Traced.{Traced}
 use Rattle.tracer.specs.declared.walks.Visited as Code
-use Rattle.tracer.specs.Held.{heldPlace, Held}
+use Rattle.places.specs.Held.{heldPlace, Held}
 
 -- the trace goes on from the place that is held
 pub record GoesOn (s : List ℕ) (n : ℕ) (start x : Place) (q : Placed) : Type 0 where

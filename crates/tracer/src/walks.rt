@@ -2,10 +2,8 @@
 
 ghost use Prim.Native.Nat.{_+_, _*_, _≤_};
 ghost use lib.ListN.{length};
-ghost use Rattle.tracer.specs.Held.{Held};
+ghost use Rattle.places.specs.Held.{Held};
 ghost use Rattle.tracer.specs.Visited.{Visits, Walks};
-use crate::places;
-use crate::steps;
 use paper::Placed;
 use paper::Traced;
 use paper::Verdict;

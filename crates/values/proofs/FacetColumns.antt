@@ -19,10 +19,12 @@ use Rattle.paper.specs.Values.{fieldOf}
 use Rattle.paper.specs.Operations.{facetRefusal}
 use Rattle.paper.specs.Cells.{maskList, columnList}
 use Rattle.paper.proofs.Tests.{two-or-three, dimension-range}
-use Rattle.values.specs.declared.Vertex.{Vertex}
-use Rattle.values.specs.Vertices.{facetAs, pickVertex, vertexList, firstCells, VertexSize}
+use Rattle.vertices.specs.declared.Vertex.{Vertex}
+use Rattle.values.specs.Columns.{facetAs, pickVertex, vertexList, firstCells}
+use Rattle.vertices.specs.Vertices.{VertexSize}
 use Rattle.values.specs.Ask.{JobOf}
-use Rattle.values.specs.Post.{Shifted, stopNumber, Found, FacetFound}
+use Rattle.vertices.specs.Post.{Shifted}
+use Rattle.values.specs.Post.{stopNumber, Found, FacetFound}
 use Rattle.values.proofs.OpenedJob.{job-dimension}
 use Rattle.values.proofs.Filled.{none-size}
 use Rattle.values.proofs.FirstCells.{first-at, first-size, first-columns}

@@ -18,7 +18,7 @@ use Rattle.paper.specs.Values.{fieldOf}
 use Rattle.paper.specs.Cells.{columnAt, columnsOf}
 use Rattle.paper.proofs.Tests.{two-or-three, dimension-range}
 use Rattle.values.specs.declared.Entries.{Entries}
-use Rattle.values.specs.Vertices.{putColumn}
+use Rattle.values.specs.Columns.{putColumn}
 use Rattle.values.specs.Post.{entriesAs, EntriesFound, stopNumber, Found}
 use Rattle.values.proofs.Each.{every-all, every-fails, same-each, map-map}
 use Rattle.values.proofs.PutColumn.{put-length, put-other, put-top, put-column, put-earlier, put-size}

@@ -13,7 +13,7 @@ use Rattle.exact.specs.Size.{Size}
 use Rattle.exact.specs.Crossed.{countFrom}
 use Rattle.exact.proofs.SizeLaws.{size-pos, size-weaken}
 use Rattle.paper.specs.Cells.{columnAt, columnsOf, columnList}
-use Rattle.values.specs.Vertices.{firstCells}
+use Rattle.values.specs.Columns.{firstCells}
 use Rattle.values.proofs.Each.{same-each}
 
 -- a list of a function's values, at an index inside and behind its end

@@ -7,8 +7,9 @@ use native.Mathlib.Omega.{arith}
 use lib.IntN.{ℤ}
 use lib.ListN.{getD}
 use Rattle.curves.specs.Step.{every}
-use Rattle.values.specs.declared.Vertex.{Vertex}
-use Rattle.values.specs.Vertices.{vertexAs, pickVertex, vertexList}
+use Rattle.vertices.specs.declared.Vertex.{Vertex}
+use Rattle.vertices.specs.Vertices.{vertexAs}
+use Rattle.values.specs.Columns.{pickVertex, vertexList}
 use Rattle.values.specs.declared.Entries.{Entries}
 use Rattle.values.specs.Post.{EntriesFound}
 use Rattle.values.proofs.Each.{every-all, every-fails, every-at}

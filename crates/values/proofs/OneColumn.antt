@@ -22,7 +22,7 @@ use Rattle.values.specs.declared.Sums.{Sums}
 use Rattle.values.specs.declared.Entries.{Entries}
 use Rattle.values.specs.Ask.{JobOf}
 use Rattle.values.specs.Post.{sumsAs, SumsFound, entriesAs, EntriesFound}
-use Rattle.values.proofs.Machine.{is-number}
+use Rattle.vertices.proofs.Machine.{is-number}
 use Rattle.values.proofs.OpenedJob.{job-dimension, readable-as}
 
 -- the value of a readable sum is readable

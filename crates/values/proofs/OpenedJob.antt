@@ -23,13 +23,15 @@ use Rattle.paper.specs.Values.{rawSum, sums, fieldOf, readableSum}
 use Rattle.paper.proofs.Tests.{two-or-three}
 use Rattle.paper.proofs.Opens.{Opens, opens}
 use Rattle.paper.proofs.Bodies.{box-length, terms-high}
-use Rattle.values.specs.declared.Vertex.{Vertex}
+use Rattle.vertices.specs.declared.Vertex.{Vertex}
 use Rattle.values.specs.declared.Sums.{Sums}
-use Rattle.values.specs.Vertices.{vertexAs, Near}
-use Rattle.values.specs.Ask.{Polynomial, JobOf}
-use Rattle.values.specs.Post.{Is, sumsAs, SumsFound}
-use Rattle.values.proofs.Machine.{is-number}
-use Rattle.values.proofs.Inside.{and-one, inside-near}
+use Rattle.vertices.specs.Vertices.{vertexAs, Near}
+use Rattle.vertices.specs.Ask.{Polynomial}
+use Rattle.values.specs.Ask.{JobOf}
+use Rattle.vertices.specs.Post.{Is}
+use Rattle.values.specs.Post.{sumsAs, SumsFound}
+use Rattle.vertices.proofs.Machine.{is-number}
+use Rattle.vertices.proofs.Inside.{and-one, inside-near}
 
 module _ {n : ℕ} {s : List ℕ} (j : JobOf n s) where
   opened : Opens s

@@ -18,8 +18,8 @@ use Rattle.exact.specs.Size.{Size}
 use Rattle.exact.specs.Crossed.{countFrom}
 use Rattle.paper.specs.Limits.{readableLimit}
 use Rattle.paper.specs.Cells.{columnAt}
-use Rattle.values.specs.Vertices.{putColumn, firstCells}
-use Rattle.values.proofs.Machine.{is-number}
+use Rattle.values.specs.Columns.{putColumn, firstCells}
+use Rattle.vertices.proofs.Machine.{is-number}
 use Rattle.values.proofs.Each.{same-each}
 
 module _ (cells : List ℤ) (k : ℕ) (a b : ℤ) where

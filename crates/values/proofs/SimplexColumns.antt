@@ -11,9 +11,11 @@ use Rattle.curves.specs.Step.{columns}
 use Rattle.paper.specs.Limits.{dimensionOk}
 use Rattle.paper.specs.Values.{fieldOf}
 use Rattle.paper.proofs.Tests.{two-or-three}
-use Rattle.values.specs.declared.Vertex.{Vertex}
-use Rattle.values.specs.Vertices.{vertexAs, orderAs, pickVertex, vertexList}
-use Rattle.values.specs.Post.{Raised, stopNumber, Found, SimplexFound}
+use Rattle.vertices.specs.declared.Vertex.{Vertex}
+use Rattle.vertices.specs.Vertices.{vertexAs}
+use Rattle.values.specs.Columns.{orderAs, pickVertex, vertexList}
+use Rattle.vertices.specs.Post.{Raised}
+use Rattle.values.specs.Post.{stopNumber, Found, SimplexFound}
 
 pub simplex-vertices : (n : ℕ) {corner w1 w2 w3 : Vertex} {o1 o2 o3 : ℕ} → dimensionOk n ≡ true → Raised corner o1 w1 → Raised w1 o2 w2
     → Raised w2 o3 w3 → vertexList n (n + 1) corner w1 w2 w3 ≡ vertices (vertexAs n corner) (orderAs n o1 o2 o3)

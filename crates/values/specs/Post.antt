@@ -7,30 +7,14 @@ use lib.IntN.{ℤ}
 use lib.ListN.{getD, take}
 use Rattle.exact.specs.Int.{0ℤ, 1ℤ}
 use Rattle.exact.specs.Size.{Size}
-use Rattle.curves.specs.Grid.{Vertex, Facet, facetVertices, plus, up}
+use Rattle.curves.specs.Grid.{Vertex, Facet, facetVertices}
 use Rattle.curves.specs.Step.{Field, column, columns, every}
 use Rattle.paper.specs.Limits.{readableLimit}
 use Rattle.paper.specs.Values.{sums, fieldOf}
 use Rattle.paper.specs.Operations.{facetRefusal}
 use Rattle.paper.specs.Cells.{columnList, columnsOf, FacetCells}
-use Rattle.values.specs.declared.Vertex.{Vertex as HeldVertex}
 use Rattle.values.specs.declared.Sums.{Sums}
 use Rattle.values.specs.declared.Entries.{Entries}
-use Rattle.values.specs.Vertices.{vertexAs, VertexSize}
-
--- a number that a definition gives, with a bound on its size
-pub record Is (m : ℕ) (value r : ℤ) : Type 0 where
-  pub is : r ≡ value
-  pub size : Size m r
-
--- the vertex with 1 added on each axis of a mask, and with 1 added on one axis, in any dimension up to 3
-pub record Shifted (v : HeldVertex) (mask : ℕ) (r : HeldVertex) : Type 0 where
-  pub is : (n : ℕ) → vertexAs n r ≡ plus (vertexAs n v) mask
-  pub size : (m : ℕ) → VertexSize m v → VertexSize (m + 1) r
-
-pub record Raised (v : HeldVertex) (axis : ℕ) (r : HeldVertex) : Type 0 where
-  pub is : (n : ℕ) → vertexAs n r ≡ up axis (vertexAs n v)
-  pub size : (m : ℕ) → VertexSize m v → VertexSize (m + 1) r
 
 -- the sums at a vertex: the first n − 1 count
 unfoldable pub sumsAs : ℕ → Sums → List ℤ

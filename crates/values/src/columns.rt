@@ -7,14 +7,15 @@ ghost use Rattle.exact.specs.Int.{0ℤ};
 ghost use Rattle.exact.specs.Size.{Size};
 ghost use Rattle.curves.specs.Step.{every};
 ghost use Rattle.paper.specs.Values.{fieldOf};
-ghost use Rattle.values.specs.Vertices.{vertexAs, pickVertex, vertexList, putColumn, firstCells};
+ghost use Rattle.vertices.specs.Vertices.{vertexAs};
+ghost use Rattle.values.specs.Columns.{pickVertex, vertexList, putColumn, firstCells};
 ghost use Rattle.values.specs.Ask.{JobOf};
 ghost use Rattle.values.specs.Post.{EntriesFound, Found};
 use crate::Entries;
 use crate::SimplexValues;
-use crate::Vertex;
+use vertices::Vertex;
 use crate::field;
-use crate::value;
+use vertices::value;
 
 // Vertex k of four.
 fn pick(k: usize, w0: Vertex, w1: Vertex, w2: Vertex, w3: Vertex) -> Vertex

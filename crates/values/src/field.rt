@@ -6,14 +6,14 @@ ghost use Rattle.exact.specs.Size.{Size};
 ghost use Rattle.curves.specs.Step.{every};
 ghost use Rattle.paper.specs.Limits.{dimensionOk};
 ghost use Rattle.paper.specs.Values.{readableSum, fieldOf};
-ghost use Rattle.values.specs.Vertices.{vertexAs};
+ghost use Rattle.vertices.specs.Vertices.{vertexAs};
 ghost use Rattle.values.specs.Ask.{JobOf};
 ghost use Rattle.values.specs.Post.{sumsAs, SumsFound};
 use crate::Sums;
-use crate::Vertex;
-use crate::lattice;
-use crate::polynomial;
-use crate::value;
+use vertices::Vertex;
+use vertices::lattice;
+use vertices::polynomial;
+use vertices::value;
 
 // The vertex lies in the job's box.
 pub fn vertex_inside(job: &[u8], n: usize, v: Vertex) -> bool

@@ -1,15 +1,11 @@
 // Values at lattice vertices: document 01, section "Crossed". Every sum is exact: the limits of a job keep it inside 64 bits.
 ghost use Rattle.curves.specs.Grid.{vertices};
-ghost use Rattle.values.specs.Vertices.{vertexAs, orderAs, facetAs, VertexSize};
+ghost use Rattle.vertices.specs.Vertices.{vertexAs, VertexSize};
+ghost use Rattle.values.specs.Columns.{orderAs, facetAs};
 ghost use Rattle.values.specs.Ask.{JobOf};
 ghost use Rattle.values.specs.Post.{FacetFound, SimplexFound};
-
-// A lattice vertex by its coordinates; z does not count in dimension 2.
-pub struct Vertex {
-    pub x: i64,
-    pub y: i64,
-    pub z: i64,
-}
+use vertices::Vertex;
+use vertices::lattice;
 
 // The polynomials' sums at a vertex; second is 0 in dimension 2.
 pub struct Sums {
@@ -35,15 +31,6 @@ pub struct SimplexValues {
     pub stop: u64,
     pub cols: [i64; 12],
 }
-
-// Powers, terms and the sum of a polynomial.
-pub mod polynomial;
-
-// Readable sums, and the value that judging goes by.
-pub mod value;
-
-// Vertices moved along axes, and vertices in the box.
-pub mod lattice;
 
 // Vertices of a job: in the box, and their sums.
 pub mod field;

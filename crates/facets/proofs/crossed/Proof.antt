@@ -12,9 +12,9 @@ use Rattle.exact.specs.Det.{determinant}
 use Rattle.exact.specs.Crossed.{coefficient, coefficients, crossed}
 use Rattle.exact.proofs.Bits.{back, back-is}
 use Rattle.paper.specs.Cells.{columnList}
-use Rattle.facets.specs.Cells.{signNumber}
-use Rattle.facets.proofs.DeterminantSteps.{facet-sizes, determinant-size}
-use Rattle.facets.proofs.UnitColumn.{coefficient-size}
+use Rattle.facets.specs.Signs.{signNumber}
+use Rattle.determinants.proofs.DeterminantSteps.{facet-sizes, determinant-size}
+use Rattle.determinants.proofs.UnitColumn.{coefficient-size}
 use Rattle.facets.proofs.CrossedWalk.{leftAt, left-begin, left-passed, verticesLeft, crossed-zero, crossed-begin, vertices-none, vertex-with, vertex-against, vertex-without}
 use Rattle.facets.proofs.crossed.Statement.{statement}
 use Rattle.facets.proofs.crossed.Tie as tie

@@ -2,7 +2,7 @@
 use mathlib.Core.Path.{refl}
 use native.Mathlib.Omega.{arith}
 use Rattle.paper.specs.Listing.{firstLine}
-use Rattle.text.proofs.WrittenParts.{writes-then, writes-as}
+use Rattle.decimals.proofs.WrittenParts.{writes-then, writes-as}
 use borrow.Author.Needs.{needs}
 use Rattle.text.proofs.put_first.Statement.{statement}
 use Rattle.text.proofs.put_first.Tie as tie

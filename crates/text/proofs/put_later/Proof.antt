@@ -1,7 +1,7 @@
 -- `put_later` meets its contract: two numbers in dimension 3, one in dimension 2.
 use native.Mathlib.Omega.{arith}
-use Rattle.text.proofs.WrittenParts.{writes-then, writes-as}
-use Rattle.text.proofs.SignedSize.{bits-are}
+use Rattle.decimals.proofs.WrittenParts.{writes-then, writes-as}
+use Rattle.decimals.proofs.SignedSize.{bits-are}
 use Rattle.text.proofs.LineParts.{both-shown, one-shown}
 use borrow.Author.Needs.{needs}
 use Rattle.text.proofs.put_later.Statement.{statement}

@@ -1,6 +1,6 @@
 -- `put_mask` meets its contract: a blank, then the number.
 use native.Mathlib.Omega.{arith}
-use Rattle.text.proofs.WrittenParts.{writes-then, writes-as}
+use Rattle.decimals.proofs.WrittenParts.{writes-then, writes-as}
 use Rattle.text.proofs.LineParts.{blank-mask}
 use borrow.Author.Needs.{needs}
 use Rattle.text.proofs.put_mask.Statement.{statement}

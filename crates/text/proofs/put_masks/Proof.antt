@@ -2,7 +2,7 @@
 use mathlib.Core.Path.{refl}
 use native.Mathlib.Omega.{arith}
 use lib.IntN.{pos}
-use Rattle.text.proofs.WrittenParts.{writes-then, writes-as}
+use Rattle.decimals.proofs.WrittenParts.{writes-then, writes-as}
 use Rattle.text.proofs.LineParts.{both-shown, one-shown}
 use borrow.Author.Needs.{needs}
 use Rattle.text.proofs.put_masks.Statement.{statement}

@@ -1,8 +1,8 @@
 -- `put_place` meets its contract: the parts of a place's line, one behind the other.
 use mathlib.Core.Path.{_≡_, _∙_}
 use native.Mathlib.Omega.{arith}
-use Rattle.text.proofs.WrittenParts.{writes-then, writes-as}
-use Rattle.text.proofs.SignedSize.{bits-are}
+use Rattle.decimals.proofs.WrittenParts.{writes-then, writes-as}
+use Rattle.decimals.proofs.SignedSize.{bits-are}
 use Rattle.text.proofs.LineParts.{place-text}
 use borrow.Author.Needs.{needs}
 use Rattle.text.proofs.put_place.Statement.{statement}

@@ -4,7 +4,7 @@ use native.Mathlib.Omega.{arith}
 use Rattle.paper.specs.Listing.{verdictWord}
 use Rattle.paper.specs.Answers.{verdictAs}
 use Rattle.paper.specs.declared.Verdict.{Verdict}
-use Rattle.text.proofs.WrittenParts.{writes-as}
+use Rattle.decimals.proofs.WrittenParts.{writes-as}
 use borrow.Author.Needs.{needs}
 use Rattle.text.proofs.put_verdict.Statement.{statement}
 use Rattle.text.proofs.put_verdict.Tie as tie

@@ -1,7 +1,7 @@
 -- `trace` meets its contract: refused as the paper's chain says, or the walk from the job's start.
 use borrow.Author.Needs.{needs}
-use Rattle.tracer.proofs.Found.{found-held}
-use Rattle.tracer.proofs.Answering.{not-opened, at-start, start-refused, start-answered}
+use Rattle.steps.proofs.Found.{found-held}
+use Rattle.tracer.proofs.TraceAnswers.{not-opened, at-start, start-refused, start-answered}
 use Rattle.tracer.proofs.trace.Statement.{statement}
 use Rattle.tracer.proofs.trace.Tie as tie
 

@@ -5,7 +5,7 @@ use lib.ListN.{length, take, drop}
 use lib.Seq.{length-take-le}
 use denote.Ref.{now}
 use Rattle.paper.proofs.Tests.{dimension-range}
-use Rattle.text.proofs.WrittenParts.{writes-then, writes-as}
+use Rattle.decimals.proofs.WrittenParts.{writes-then, writes-as}
 use Rattle.listing.proofs.PlacesShown.{first-asked, no-lines}
 use Prim.Native.Nat.{ℕ, _<_}
 use borrow.Fn.Kinds.{In}

@@ -2,8 +2,8 @@
 use mathlib.Core.Path.{_≡_, sym, ap, _∙_}
 use native.Mathlib.Omega.{arith}
 use denote.Ref.{now}
-use Rattle.text.proofs.WrittenParts.{writes-as}
-use Rattle.text.proofs.SignedSize.{bits-are}
+use Rattle.decimals.proofs.WrittenParts.{writes-as}
+use Rattle.decimals.proofs.SignedSize.{bits-are}
 use Rattle.listing.proofs.PointShown.{line-shown, point-not-refused}
 use borrow.Author.Needs.{needs}
 use Rattle.listing.proofs.lines.put_line.Statement.{statement}

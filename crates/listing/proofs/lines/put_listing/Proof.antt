@@ -3,7 +3,7 @@ use mathlib.Core.Path.{_∙_}
 use native.Mathlib.Omega.{arith}
 use borrow.Author.Needs.{needs}
 use denote.Ref.{now}
-use Rattle.text.proofs.WrittenParts.{writes-as}
+use Rattle.decimals.proofs.WrittenParts.{writes-as}
 use Rattle.listing.proofs.ListingText.{listing-long, listing-short, listing-refused, listed-answer}
 use Rattle.listing.proofs.lines.put_listing.Statement.{statement}
 use Rattle.listing.proofs.lines.put_listing.Tie as tie

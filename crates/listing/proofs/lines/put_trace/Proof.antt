@@ -3,7 +3,7 @@ use mathlib.Core.Path.{_∙_}
 use Prim.Native.Nat.{zero-le}
 use native.Mathlib.Omega.{arith}
 use denote.Ref.{now}
-use Rattle.text.proofs.WrittenParts.{writes-then, writes-as}
+use Rattle.decimals.proofs.WrittenParts.{writes-then, writes-as}
 use Rattle.listing.proofs.TraceListed.{answered-opens, count-within, listed-asked}
 use Rattle.listing.proofs.ListingText.{trace-lines}
 use Rattle.listing.proofs.lines.put_trace.Statement.{statement}

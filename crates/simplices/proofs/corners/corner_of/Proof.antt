@@ -4,8 +4,8 @@ use native.Mathlib.Omega.{arith}
 use lib.IntN.{negsuc}
 use lib.Dec.{lit≤}
 use Rattle.paper.specs.Cells.{lowVertex}
-use Rattle.simplices.specs.Table.{orderAt, axisAt}
-use Rattle.simplices.proofs.Rows.{row-length, dimension-small}
+use Rattle.orders.specs.Table.{orderAt, axisAt}
+use Rattle.orders.proofs.Rows.{row-length, dimension-small}
 use Rattle.simplices.proofs.Moves.{sizes-weaken, sizes-back, moved-back, low-back, corner-moved, corner-other}
 use Rattle.simplices.proofs.corners.corner_of.Statement.{statement}
 use Rattle.simplices.proofs.corners.corner_of.Tie as tie

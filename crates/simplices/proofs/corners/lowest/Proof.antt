@@ -6,8 +6,8 @@ use Rattle.exact.specs.Int.{1ℤ}
 use Rattle.simplices.specs.Corners.{addOn}
 use lib.Dec.{lit≤}
 use Rattle.paper.specs.Cells.{lowVertex}
-use Rattle.simplices.specs.Table.{orderAt, axisAt}
-use Rattle.simplices.proofs.Rows.{row-length, dimension-small}
+use Rattle.orders.specs.Table.{orderAt, axisAt}
+use Rattle.orders.proofs.Rows.{row-length, dimension-small}
 use Rattle.simplices.proofs.Moves.{sizes-weaken, low-moved, low-other}
 use Rattle.simplices.proofs.corners.lowest.Statement.{statement}
 use Rattle.simplices.proofs.corners.lowest.Tie as tie

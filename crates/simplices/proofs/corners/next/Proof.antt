@@ -2,7 +2,7 @@
 use borrow.Author.Needs.{needs}
 use Rattle.paper.specs.Answers.{placedAs}
 use Rattle.paper.specs.Cells.{lowVertex}
-use Rattle.facets.proofs.Dimension.{dimension-not-two}
+use Rattle.paper.proofs.Tests.{dimension-not-two}
 use Rattle.simplices.proofs.Onward.{side-small, low-two, low-three, onward}
 use Rattle.simplices.proofs.corners.next.Statement.{statement}
 use Rattle.simplices.proofs.corners.next.Tie as tie

@@ -3,7 +3,7 @@ use Prim.Native.Nat.{suc, _-_, _≤_}
 use mathlib.Core.Path.{_≡_, sym, _∙_}
 use native.Mathlib.Omega.{arith}
 use Rattle.exact.specs.Crossed.{exit}
-use Rattle.facets.proofs.Dimension.{dimension-le-three}
+use Rattle.paper.proofs.Tests.{dimension-range}
 use Rattle.simplices.specs.Exits.{simplexColumns}
 use Rattle.simplices.proofs.ExitSearch.{searchFrom, exit-start, exit-here, exit-later, exit-end}
 use Rattle.simplices.proofs.exits.exit.Statement.{statement}
@@ -29,7 +29,7 @@ returns c =
     (c .before .before .loop-test .taken) (sym (c .before .is-other .ensures) ∙ c .if1 .taken))
 
 add-q : tie.Need-add-q Inv-loop μ-loop
-add-q c = record { fits = omega (arith, c .before .before .loop-test .taken, dimension-le-three (c .before .before .before .before .args .n) (c .before .before .before .before .pre .dimension)) }
+add-q c = record { fits = omega (arith, c .before .before .loop-test .taken, dimension-range (c .before .before .before .before .args .n) (c .before .before .before .before .pre .dimension) .high) }
 
 loop-less : tie.Need-loop-less Inv-loop μ-loop
 loop-less c = omega arith

@@ -4,7 +4,7 @@ use mathlib.Core.Bool.{not, _&&_}
 use native.Mathlib.Omega.{arith}
 use borrow.Author.Tests.{eq-eqb, ne-eqb}
 use Rattle.exact.specs.Crossed.{crossed, remove}
-use Rattle.facets.proofs.Dimension.{dimension-le-three}
+use Rattle.paper.proofs.Tests.{dimension-range}
 use Rattle.simplices.specs.Exits.{simplexColumns}
 use Rattle.simplices.proofs.Columns.{cells-fit, without-columns, without-facet}
 use Rattle.simplices.proofs.exits.is_other.Statement.{statement}
@@ -15,7 +15,7 @@ returns c = rw (eq-eqb (c .before .args .q) (c .before .args .out) (c .if1 .take
 
 without-requires : tie.Need-without-requires
 without-requires c κs =
-    (omega (arith, c .before .pre .1, dimension-le-three (c .before .args .n) (c .before .pre .0 .dimension)), cells-fit (c .before .pre .0))
+    (omega (arith, c .before .pre .1, dimension-range (c .before .args .n) (c .before .pre .0 .dimension) .high), cells-fit (c .before .pre .0))
 
 crossed-requires : tie.Need-crossed-requires
 crossed-requires c κs =

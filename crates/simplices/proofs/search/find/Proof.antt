@@ -6,7 +6,7 @@ use mathlib.Core.Bool.{false}
 use native.Mathlib.Omega.{arith}
 use borrow.Author.Count.{below-more}
 use Rattle.paper.specs.Cells.{maskList}
-use Rattle.facets.proofs.Dimension.{dimension-cases}
+use Rattle.paper.proofs.Tests.{two-or-three}
 use Rattle.simplices.specs.Search.{matches}
 use Rattle.simplices.proofs.Matching.{length-maskList}
 use Rattle.simplices.proofs.Finding.{found, some-match}
@@ -50,7 +50,7 @@ returns-2 : tie.Need-returns-2 Inv-loop μ-loop
 returns-2 c =
     absurd
     (some-match (c .before .before .before .args .n) (c .before .before .before .pre .0) (maskList (c .before .before .before .args .n) (c .before .before .before .args .mask1) (c .before .before .before .args .mask2)) (c .before .before .before .args .side)
-    (length-maskList (c .before .before .before .args .n) (c .before .before .before .args .mask1) (c .before .before .before .args .mask2) (dimension-cases (c .before .before .before .args .n) (c .before .before .before .pre .0)))
+    (length-maskList (c .before .before .before .args .n) (c .before .before .before .args .mask1) (c .before .before .before .args .mask2) (two-or-three (c .before .before .before .args .n) (c .before .before .before .pre .0)))
     (c .before .before .before .pre .1 .0) (c .before .before .before .pre .1 .1)
     (λ r l k u. c .before .loop .inv .1 r (omega (arith, c .before .before .rows .ensures)) k u))
 

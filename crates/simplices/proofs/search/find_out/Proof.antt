@@ -6,7 +6,7 @@ use native.Mathlib.Omega.{arith}
 use borrow.Author.Count.{below-more}
 use Rattle.paper.specs.Cells.{maskList}
 use Rattle.simplices.specs.Search.{matches}
-use Rattle.simplices.proofs.Rows.{dimension-small}
+use Rattle.orders.proofs.Rows.{dimension-small}
 use Rattle.simplices.proofs.search.find_out.Statement.{statement}
 use Rattle.simplices.proofs.search.find_out.Tie as tie
 

@@ -1,7 +1,7 @@
 -- `search::matches` meets its contract: it compares the masks that the dimension has, and the side.
 use mathlib.Core.Path.{_≡_}
 use borrow.Author.Needs.{needs}
-use Rattle.facets.proofs.Dimension.{dimension-not-two}
+use Rattle.paper.proofs.Tests.{dimension-not-two}
 use Rattle.simplices.proofs.Matching.{first-differs, two-agree, second-differs, three-agree}
 use Rattle.simplices.proofs.search.matches.Statement.{statement}
 use Rattle.simplices.proofs.search.matches.Tie as tie

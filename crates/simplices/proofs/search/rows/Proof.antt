@@ -3,7 +3,7 @@ use mathlib.Core.Path.{sym, ap, _∙_}
 use lib.ListN.{length}
 use Rattle.curves.specs.Grid.{orders}
 use Rattle.curves.proofs.Orders.{length-orders-2, length-orders-3}
-use Rattle.facets.proofs.Dimension.{dimension-not-two}
+use Rattle.paper.proofs.Tests.{dimension-not-two}
 use Rattle.simplices.proofs.search.rows.Statement.{statement}
 use Rattle.simplices.proofs.search.rows.Tie as tie
 

@@ -1,9 +1,9 @@
 -- `walks::visit` meets its contract: the place is written, and the step from it decides.
 use borrow.Author.Needs.{needs}
 use mathlib.Core.Path.{sym, subst, _∙_}
-use Rattle.tracer.specs.Held.{heldPlace}
-use Rattle.tracer.specs.Ahead.{AheadIs}
-use Rattle.tracer.proofs.HeldPlaces.{job-dimension, held-fits}
+use Rattle.places.specs.Held.{heldPlace}
+use Rattle.steps.specs.Ahead.{AheadIs}
+use Rattle.places.proofs.HeldPlaces.{job-dimension, held-fits}
 use Rattle.tracer.proofs.Tracing.{ends-at-edge, ends-at-limit, ends-in-loop, goes-on}
 use Rattle.tracer.proofs.walks.visit.Statement.{statement}
 use Rattle.tracer.proofs.walks.visit.Tie as tie

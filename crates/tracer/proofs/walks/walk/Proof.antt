@@ -3,9 +3,9 @@ use Prim.Native.Nat.{_-_}
 use native.Mathlib.Omega.{arith}
 use mathlib.Core.Path.{subst}
 use borrow.Author.Needs.{needs}
-use Rattle.tracer.specs.Held.{heldPlace}
+use Rattle.places.specs.Held.{heldPlace}
 use Rattle.tracer.specs.Visited.{VisitedIs}
-use Rattle.tracer.proofs.HeldPlaces.{job-range}
+use Rattle.places.proofs.HeldPlaces.{job-range}
 use Rattle.tracer.proofs.Tracing.{UnderWay, under-way, same-size, has-room, counts-on, after-size, is-full, is-over, stays-under-way}
 use Rattle.tracer.proofs.walks.walk.Statement.{statement}
 use Rattle.tracer.proofs.walks.walk.Tie as tie

@@ -6,7 +6,8 @@ use native.Mathlib.Omega.{arith}
 use borrow.Author.Count.{below-none, below-more}
 use borrow.Author.Tests.{not-true, not-false}
 use Rattle.paper.specs.Values.{fieldOf}
-use Rattle.values.specs.Vertices.{vertexAs, pickVertex}
+use Rattle.vertices.specs.Vertices.{vertexAs}
+use Rattle.values.specs.Columns.{pickVertex}
 use Rattle.values.proofs.Four.{four-all, four-fails, picked}
 use Rattle.values.proofs.columns.all_inside.Statement.{statement}
 use Rattle.values.proofs.columns.all_inside.Tie as tie

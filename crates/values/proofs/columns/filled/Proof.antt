@@ -4,7 +4,8 @@ use Prim.Native.Nat.{_+_, _≤_, _<_, _-_}
 use native.Mathlib.Omega.{arith}
 use borrow.Author.Tests.{not-true, not-false}
 use Rattle.paper.specs.Values.{fieldOf}
-use Rattle.values.specs.Vertices.{vertexAs, pickVertex, vertexList}
+use Rattle.vertices.specs.Vertices.{vertexAs}
+use Rattle.values.specs.Columns.{pickVertex, vertexList}
 use Rattle.values.proofs.OpenedJob.{job-dimension}
 use Rattle.values.proofs.Four.{four-at, picked-entries}
 use Rattle.values.proofs.PutColumn.{put-bits}

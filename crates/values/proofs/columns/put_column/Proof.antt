@@ -1,7 +1,7 @@
 -- `columns::put_column` meets its contract: three stores.
 use mir.Syntax.{w64}
 use mir.ValLaws.{toZ-ofZ}
-use Rattle.values.specs.Vertices.{putColumn}
+use Rattle.values.specs.Columns.{putColumn}
 use borrow.Author.Needs.{needs}
 use Rattle.values.proofs.columns.put_column.Statement.{statement}
 use Rattle.values.proofs.columns.put_column.Tie as tie

@@ -3,7 +3,7 @@ use mathlib.Core.Path.{ap, _∙_}
 use mathlib.Core.List.{List}
 use Prim.Native.Nat.{ℕ}
 use Rattle.paper.specs.Values.{insideFrom, fieldOf}
-use Rattle.values.specs.Vertices.{vertexAs}
+use Rattle.vertices.specs.Vertices.{vertexAs}
 use Rattle.values.proofs.OpenedJob.{job-dimension, job-box}
 use borrow.Author.Needs.{needs}
 use Rattle.values.proofs.field.vertex_inside.Statement.{statement}

@@ -2,9 +2,8 @@
 use mathlib.Core.Path.{refl}
 use native.Mathlib.Omega.{arith}
 use lib.Dec.{lit≤, lit<}
-use Rattle.paper.proofs.Tests.{dimension-range}
-use Rattle.values.proofs.Machine.{is-bits}
-use Rattle.values.proofs.Monomials.{not-two}
+use Rattle.paper.proofs.Tests.{dimension-range, dimension-not-two}
+use Rattle.vertices.proofs.Machine.{is-bits}
 use Rattle.values.proofs.OpenedJob.{job-dimension, job-polynomial, job-near, sums-two, sums-three}
 use Rattle.values.proofs.field.vertex_sums.Statement.{statement}
 use Rattle.values.proofs.field.vertex_sums.Tie as tie
@@ -27,13 +26,13 @@ opened-body-requires-2 c κs =
 
 raw-sum-requires-2 : tie.Need-raw-sum-requires-2
 raw-sum-requires-2 c κs = (
-  job-polynomial (c .before .before .before .before .before .pre .0) 2 (lit< tt) (omega (arith, not-two (job-dimension (c .before .before .before .before .before .pre .0)) (c .before .if1 .left))) (c .opened-body2 .ensures),
+  job-polynomial (c .before .before .before .before .before .pre .0) 2 (lit< tt) (omega (arith, dimension-not-two _ (job-dimension (c .before .before .before .before .before .pre .0)) (c .before .if1 .left))) (c .opened-body2 .ensures),
   job-near (c .before .before .before .before .before .pre .0) _ (c .before .before .before .before .before .pre .1),
 )
 
 returns-2 : tie.Need-returns-2
 returns-2 c =
-    sums-three (c .before .before .before .before .before .before .pre .0) _ (not-two (job-dimension (c .before .before .before .before .before .before .pre .0)) (c .before .before .if1 .left)) (c .before .before .before .before .opened-body .ensures) (c .before .opened-body2 .ensures)
+    sums-three (c .before .before .before .before .before .before .pre .0) _ (dimension-not-two _ (job-dimension (c .before .before .before .before .before .before .pre .0)) (c .before .before .if1 .left)) (c .before .before .before .before .opened-body .ensures) (c .before .opened-body2 .ensures)
     (is-bits (c .before .before .before .raw-sum .ensures) (lit≤ tt)) (is-bits (c .raw-sum2 .ensures) (lit≤ tt))
 
 pub vertex-sums-spec : {M : Type 1} → statement M

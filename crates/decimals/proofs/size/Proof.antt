@@ -1,0 +1,30 @@
+-- `size` meets its contract: − 1 less a number under 0 and 1 more, and any other number itself, is its size.
+use mathlib.Core.Path.{_≡_, ap, subst, sym, _∙_}
+use Prim.Native.Nat.{_+_}
+use native.Mathlib.Omega.{arith}
+use borrow.Author.Needs.{needs}
+use lib.IntN.{natAbs}
+use Rattle.decimals.proofs.SignedSize.{bits-are, complement, complement-fits, complement-casts, size-under, size-casts, size-room}
+use Rattle.decimals.proofs.size.Statement.{statement}
+use Rattle.decimals.proofs.size.Tie as tie
+
+sub-result : tie.Need-sub-result
+sub-result c = complement-fits (c .before .args .z) (c .before .fits .z) (c .if1 .taken)
+
+cast-result : tie.Need-cast-result
+cast-result c = complement-casts (c .before .args .z) (c .before .fits .z) (c .if1 .taken)
+
+add-result : tie.Need-add-result
+add-result c = size-room (c .before .args .z) (c .before .fits .z) (c .if1 .taken)
+
+returns : tie.Need-returns
+returns c = size-under (c .before .args .z) (c .before .fits .z) (c .if1 .taken)
+
+cast-result-2 : tie.Need-cast-result-2
+cast-result-2 c = size-casts (c .before .args .z) (c .before .fits .z) (c .if1 .left)
+
+returns-2 : tie.Need-returns-2
+returns-2 c = search needs
+
+pub size-spec : {M : Type 1} → statement M
+size-spec = tie.close (tie.spec sub-result cast-result add-result returns cast-result-2 returns-2)

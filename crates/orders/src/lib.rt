@@ -1,0 +1,6 @@
+// The published table of orders of the axes, and the facets of the simplex with a row's order.
+
+// The table of orders, and the vertices of a row as masks.
+pub mod table;
+// The facets of a row: masks and side.
+pub mod shapes;

@@ -1,0 +1,96 @@
+-- What `coordinate` computes: the share num / d lies from 0 to 1, so the steps are 0 to 1024, and the sum is the definition's coordinate.
+use Prim.Native.Nat.{ℕ, _+_, _*_, _/_, _≤_, _<_}
+use mathlib.Core.Path.{_≡_, refl, sym, ap, ap₂, _∙_, subst}
+use native.Mathlib.Omega.{arith}
+use native.Mathlib.Nat.{div-le-of-le-mul}
+use lib.IntN.{ℤ, pos, negsuc, natAbs, _+ℤ_, _*ℤ_}
+use lib.Dec.{lit≤, leb→le}
+use lib.Signed.{_≤ℤ_, pos-natAbs, yes-nonNeg}
+use mir.Syntax.{w64}
+use mir.Val.{SFits, toZ}
+use Rattle.exact.specs.Int.{_⊕_, _⊗_}
+use Rattle.exact.specs.Size.{Size}
+use Rattle.exact.proofs.SizeLaws.{natAbs-neg, size-weaken, size-pos, size-add, size-mul, size-fits-64}
+use Rattle.exact.proofs.Bits.{Holds, holds, back, back-is, back-size, fits-add, fits-mul, holds-add, holds-mul}
+use Rattle.paper.specs.Limits.{stepsPerUnit}
+use Rattle.paper.specs.Values.{roundSteps, overSize, coordinateSteps}
+use Rattle.points.specs.Shares.{Share, denominatorLimit, lowLimit, stepsLimit}
+
+natAbs-overSize : (num d : ℤ) → natAbs (overSize num d) ≡ natAbs num
+unfolding overSize
+natAbs-overSize num (pos d) = refl
+natAbs-overSize num (negsuc d) = natAbs-neg num
+
+pos-le : (a b : ℕ) → pos a ≤ℤ pos b → a ≤ b
+pos-le a b h = leb→le a b (h .le)
+
+-- a share's numerator is no larger than its denominator
+pub share-is : (num d : ℤ) → Share num d → overSize num d ≡ pos (natAbs num)
+share-is num d sh = sym (pos-natAbs (overSize num d) (yes-nonNeg (sh .least))) ∙ ap pos (natAbs-overSize num d)
+
+pub share-most : (num d : ℤ) → Share num d → natAbs num ≤ natAbs d
+share-most num d sh = pos-le (natAbs num) (natAbs d) (subst (λ z. z ≤ℤ pos (natAbs d)) (share-is num d sh) (sh .most))
+
+module _ (low num d : ℤ) (sl : Size lowLimit low) (sd : Size denominatorLimit d) (sh : Share num d) where
+  most : natAbs num ≤ natAbs d
+  most = share-most num d sh
+
+  num-size : Size denominatorLimit num
+  num-size = record { size = omega (arith, most, sd .size) }
+
+  few : stepsPerUnit * natAbs num / natAbs d ≤ 1024
+  unfolding stepsPerUnit
+  few = div-le-of-le-mul (natAbs d) (omega (arith, most))
+
+  rounded : roundSteps (pos stepsPerUnit ⊗ overSize num d) (natAbs d) ≡ pos (stepsPerUnit * natAbs num / natAbs d)
+  unfolding roundSteps _⊗_
+  rounded = ap (λ z. roundSteps (pos stepsPerUnit ⊗ z) (natAbs d)) (share-is num d sh)
+
+  pub coordinate-size : Size stepsLimit (coordinateSteps low num d)
+  unfolding coordinateSteps stepsPerUnit
+  coordinate-size =
+      size-weaken (size-add (size-mul (size-pos 1024) sl) (subst (Size 1024) (sym rounded) (size-weaken (size-pos _) few))) (lit≤ tt)
+
+  -- ---- what the callees are asked
+  pub asks-num : Size denominatorLimit (back num)
+  asks-num = back-size num-size (lit≤ tt)
+
+  pub asks-d : Size denominatorLimit (back d)
+  asks-d = back-size sd (lit≤ tt)
+
+  module _ (a den : ℕ) (ea : a ≡ natAbs (back num)) (ed : den ≡ natAbs (back d)) where
+    a-is : a ≡ natAbs num
+    a-is = ea ∙ ap natAbs (back-is num-size (lit≤ tt))
+
+    den-is : den ≡ natAbs d
+    den-is = ed ∙ ap natAbs (back-is sd (lit≤ tt))
+
+    pub asks-round : (0 < den) × ((a ≤ den) × (den ≤ denominatorLimit))
+    asks-round =
+        rw (a-is, den-is) (sh .nonzero, (most, omega (arith, sd .size)))
+
+    -- ---- what they give
+    module _ (r : ℕ) (er : r ≡ stepsPerUnit * a / den) where
+      steps-is : r ≡ stepsPerUnit * natAbs num / natAbs d
+      steps-is = er ∙ ap₂ (λ x y. stepsPerUnit * x / y) a-is den-is
+
+      steps-size : Size 1024 (pos r)
+      steps-size = record { size = omega (arith, steps-is, few) }
+
+      pub fits-steps : SFits w64 (pos r)
+      fits-steps = size-fits-64 (size-weaken steps-size (lit≤ tt))
+
+      unit-held : Holds 1024 (pos 1024) (pos 1024)
+      unit-held = record { is = refl; size = size-pos 1024 }
+
+      pub fits-low : SFits w64 (pos 1024 *ℤ back low)
+      fits-low = fits-mul unit-held (holds sl (lit≤ tt)) (lit≤ tt)
+
+      pub fits-coordinate : SFits w64 (back (pos 1024 *ℤ back low) +ℤ toZ w64 r)
+      fits-coordinate = fits-add (holds-mul unit-held (holds sl (lit≤ tt)) (lit≤ tt)) (holds steps-size (lit≤ tt)) (lit≤ tt)
+
+      pub coordinate-is : back (back (pos 1024 *ℤ back low) +ℤ toZ w64 r) ≡ coordinateSteps low num d
+      unfolding coordinateSteps stepsPerUnit
+      coordinate-is =
+          holds-add (holds-mul unit-held (holds sl (lit≤ tt)) (lit≤ tt)) (holds steps-size (lit≤ tt)) (lit≤ tt) .is
+          ∙ ap (λ z. pos 1024 ⊗ low ⊕ z) (ap pos steps-is ∙ sym rounded)

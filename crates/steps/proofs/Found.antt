@@ -1,0 +1,59 @@
+-- A place of a job that Point does not refuse is held, and it is the place that its bytes say.
+use Prim.Native.Nat.{ℕ}
+use native.Mathlib.Omega.{arith}
+use mathlib.Core.Path.{_≡_, sym, ap, subst₂, _∙_}
+use mathlib.Core.Bool.{true}
+use mathlib.Core.List.{List}
+use borrow.Author.Tests.{not-false}
+use Rattle.curves.specs.Grid.{Place, facetVertices, placeOk}
+use Rattle.curves.specs.Step.{every, readableAll}
+use Rattle.curves.specs.Joined.{Tracable}
+use Rattle.curves.proofs.GridStep.{accepted-tracable}
+use Rattle.paper.specs.Job.{dimension, decodePlace}
+use Rattle.paper.specs.Values.{fieldOf}
+use Rattle.paper.specs.Operations.{facetRefusal, crossedIn, facetOf, judgeRefusal, pointRefusal}
+use Rattle.paper.specs.Answers.{placedAs, paddedPlace}
+use Rattle.paper.proofs.Tests.{and-true}
+use Rattle.paper.proofs.Refusals.{not-refused, neither-refused}
+use Rattle.judge.specs.declared.JobPlace.{JobPlace}
+use Rattle.judge.specs.Located.{Finds, Crosses}
+use Rattle.places.specs.Held.{heldPlace, Held}
+
+point-tracable : (s p : List ℕ) → placeOk (dimension s) (decodePlace (dimension s) p) ≡ true → pointRefusal s p ≡ 0
+    → Tracable (dimension s) (fieldOf s) (decodePlace (dimension s) p)
+unfolding pointRefusal judgeRefusal facetRefusal crossedIn facetOf readableAll
+point-tracable s p form h =
+    let j = neither-refused _ _ h in
+    let r13 = not-refused _ 13 _ (omega arith) (neither-refused _ _ (j .first) .next) in
+    let r9 = not-refused _ 9 _ (omega arith) (r13 .next) in
+    let r10 = not-refused _ 10 _ (omega arith) (r9 .next) in
+    let r11 = not-refused _ 11 _ (omega arith) (j .next) in
+    let f = decodePlace (dimension s) p .facet in
+    let boxed : every (fieldOf s .inBox) (facetVertices f) ≡ true = not-false _ (r9 .test) in
+    let read : every (fieldOf s .readable) (facetVertices f) ≡ true = not-false _ (r10 .test) in
+    accepted-tracable (dimension s) (fieldOf s) (decodePlace (dimension s) p)
+    record { form = form; readable = and-true boxed read; crosses = not-false _ (r11 .test) }
+
+module _ {s p : List ℕ} {r : JobPlace} (c : Crosses s p r) (none : r .refusal ≡ 0) where
+  found : Finds s p r
+  found = c .finds none
+
+  side-is : r .place .side ≡ decodePlace (dimension s) p .side
+  unfolding placedAs paddedPlace
+  side-is = ap (λ (q : Place). q .side) (found .place .is)
+
+  read-is : heldPlace (dimension s) (r .place) ≡ decodePlace (dimension s) p
+  unfolding heldPlace
+  read-is = λ i. record { facet = found .place .facet i; side = side-is i }
+
+  pub found-place : heldPlace (r .n) (r .place) ≡ decodePlace (dimension s) p
+  found-place = ap (λ k. heldPlace k (r .place)) (found .inDimension) ∙ read-is
+
+  pub found-held : Held s (r .n) (r .place)
+  found-held = record {
+    job = record { opens = found .opens; dimension = found .inDimension };
+    tracable =
+        subst₂ (λ k q. Tracable k (fieldOf s) q) (sym (found .inDimension)) (sym found-place)
+        (point-tracable s p (found .form) (sym (c .number) ∙ none));
+    padded = found .place .is ∙ ap paddedPlace (sym found-place);
+  }

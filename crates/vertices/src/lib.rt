@@ -1,0 +1,17 @@
+// Lattice vertices and the polynomials' sums at them. Every sum is exact: the limits of a job keep it inside 64 bits.
+
+// A lattice vertex by its coordinates; z does not count in dimension 2.
+pub struct Vertex {
+    pub x: i64,
+    pub y: i64,
+    pub z: i64,
+}
+
+// Powers, terms and the sum of a polynomial.
+pub mod polynomial;
+
+// Readable sums, and the value that judging goes by.
+pub mod value;
+
+// Vertices moved along axes, and vertices in the box.
+pub mod lattice;
