@@ -9,8 +9,8 @@ ghost use Rattle.paper.specs.Cells.{lowVertex};
 ghost use Rattle.paper.specs.Answers.{placedAs, paddedPlace};
 ghost use Rattle.orders.specs.Table.{InTable, orderAt};
 ghost use Rattle.simplices.specs.Corners.{addOn, cornerUnder, lowOver, Sizes, CornerIs};
-use orders::table;
 use orders::shapes;
+use orders::table;
 use paper::Placed;
 
 // A vertex; z is of no account in dimension 2.

@@ -13,8 +13,8 @@ ghost use Rattle.values.specs.Ask.{JobOf};
 ghost use Rattle.values.specs.Post.{EntriesFound, Found};
 use crate::Entries;
 use crate::SimplexValues;
-use vertices::Vertex;
 use crate::field;
+use vertices::Vertex;
 use vertices::value;
 
 // Vertex k of four.

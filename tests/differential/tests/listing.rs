@@ -66,8 +66,17 @@ fn examples() {
 #[test]
 fn listing_is_the_reference() {
     let mut r = Random::new(23);
-    for k in 0..10_000 {
-        let job = if k % 2 == 0 { any_job(&mut r) } else { valid(&mut r).bytes() };
-        assert_eq!(printed(&job), listing(&job), "{job:?}");
-    }
+    let jobs: Vec<Vec<u8>> = (0..10_000)
+        .map(|k| if k % 2 == 0 { any_job(&mut r) } else { valid(&mut r).bytes() })
+        .collect();
+    // Most of the time goes into starting the program, so a few are started side by side.
+    std::thread::scope(|scope| {
+        for part in jobs.chunks(jobs.len() / 4) {
+            scope.spawn(move || {
+                for job in part {
+                    assert_eq!(printed(job), listing(job), "{job:?}");
+                }
+            });
+        }
+    });
 }
