@@ -15,7 +15,7 @@ use Rattle.paper.specs.Bytes.{byte}
 use Rattle.paper.specs.Limits.{dimensionOk}
 use Rattle.paper.specs.Job.{decodePlace}
 use Rattle.paper.proofs.Tests.{two-or-three}
-use Rattle.bodies.proofs.RangeSteps.{left-one}
+use Rattle.paper.proofs.RangeSteps.{left-one}
 
 -- the masks at the bytes from k to e − 1
 abbrev pub masksAt : List ℕ → ℕ → ℕ → List ℕ

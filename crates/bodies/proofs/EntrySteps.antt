@@ -10,7 +10,7 @@ use borrow.Author.Tests.{eq-eqb, ne-eqb}
 use Rattle.paper.specs.Job.{entryOffset, entryLength, lengthOk, entriesOk, contentsOk, contentsEnd, body}
 use Rattle.paper.proofs.Bodies.{contents-long, contents-inside}
 use Rattle.bodies.specs.Parts.{PartInside}
-use Rattle.bodies.proofs.RangeSteps.{left-one}
+use Rattle.paper.proofs.RangeSteps.{left-one}
 
 module _ (n : ℕ) (s : List ℕ) (k at e : ℕ) {full : Bool} (inv : full ≡ entriesOk n s (e - k) k at) where
   -- the entry is right: the rest is left

@@ -1,11 +1,15 @@
 // The box: per axis a low and a high end.
 
-use crate::limits;
 use bits::read;
 ghost use mathlib.Core.Path.{_≡_};
 ghost use Prim.Native.Nat.{_+_, _*_, _≤_};
 ghost use lib.ListN.{length};
 ghost use Rattle.paper.specs.Job.{axisOk, boxOk};
+
+// Box ends lie from the lowest to the highest coordinate.
+const LOWEST: i64 = -256;
+
+const HIGHEST: i64 = 256;
 
 // Both ends are within the limits, low under high.
 fn axis_ok(b: &[u8], a: usize) -> bool
@@ -14,9 +18,9 @@ fn axis_ok(b: &[u8], a: usize) -> bool
 {
     let low = read::signed_word(b, 4 * a);
     let high = read::signed_word(b, 4 * a + 2);
-    if limits::LOWEST <= low {
+    if LOWEST <= low {
         if low < high {
-            return high <= limits::HIGHEST;
+            return high <= HIGHEST;
         }
     }
     false

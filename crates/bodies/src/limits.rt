@@ -1,18 +1,7 @@
-// The limits of document 01, each named once.
+// The dimensions, and the limit of terms that each one has.
 
 ghost use mathlib.Core.Path.{_≡_};
 ghost use Rattle.paper.specs.Limits.{dimensionOk, termLimit};
-
-// Box ends lie from the lowest to the highest coordinate.
-pub const LOWEST: i64 = -256;
-
-pub const HIGHEST: i64 = 256;
-
-// The size of a coefficient.
-pub const COEFFICIENT: u64 = 1048576;
-
-// The sum of a term's exponents.
-pub const DEGREE: u64 = 4;
 
 // The dimensions are 2 and 3.
 pub fn dimension_ok(n: usize) -> bool

@@ -5,7 +5,6 @@ use bodies::boxes;
 use bodies::contents;
 use bodies::limits;
 use bodies::places;
-use bodies::terms;
 use paper::Opened;
 ghost use mathlib.Core.Path.{_≡_};
 ghost use mathlib.Core.Bool.{true, false};

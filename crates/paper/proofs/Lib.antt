@@ -1,6 +1,7 @@
 -- Theorems about the definitions of document 01, a file for each idea.
 pub mod Cases
 pub mod Tests
+pub mod RangeSteps
 pub mod Refusals
 pub mod Opens
 pub mod Bodies

@@ -3,7 +3,7 @@ use mathlib.Core.Path.{_≡_, sym, _∙_}
 use mathlib.Core.Bool.{true}
 use borrow.Author.Needs.{needs}
 use Rattle.paper.specs.Limits.{dimensionOk}
-use Rattle.bodies.proofs.RangeSteps.{test-failed, test-passed}
+use Rattle.paper.proofs.RangeSteps.{test-failed, test-passed}
 use Rattle.job.proofs.OpenSteps.{HeadRight, refuse-short, refuse-mark, refuse-nought, refuse-dimension, refuse-count, head-passes}
 use Rattle.job.proofs.open_refusal.Statement.{statement}
 use Rattle.job.proofs.open_refusal.Tie as tie

@@ -8,7 +8,7 @@ use mir.Syntax.{w64}
 use borrow.Author.Needs.{needs}
 use Rattle.paper.specs.Job.{axisOk}
 use Rattle.bits.proofs.SignedBits.{read-bits}
-use Rattle.bodies.proofs.AxisAndTerm.{axis-test}
+use Rattle.bodies.proofs.AxisTest.{axis-test}
 use Rattle.bodies.proofs.boxes.axis_ok.Statement.{statement}
 use Rattle.bodies.proofs.boxes.axis_ok.Tie as tie
 

@@ -3,7 +3,7 @@ use mathlib.Core.Path.{_≡_, ap}
 use Prim.Native.Nat.{_-_}
 use native.Mathlib.Omega.{arith}
 use Rattle.paper.specs.Job.{axisOk, allFrom, boxOk}
-use Rattle.bodies.proofs.RangeSteps.{test-failed, test-passed, all-next, all-stops, all-ends}
+use Rattle.paper.proofs.RangeSteps.{test-failed, test-passed, all-next, all-stops, all-ends}
 use Rattle.bodies.proofs.boxes.box_ok.Statement.{statement}
 use Rattle.bodies.proofs.boxes.box_ok.Tie as tie
 

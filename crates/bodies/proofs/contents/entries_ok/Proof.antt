@@ -3,7 +3,7 @@ use mathlib.Core.Path.{_≡_, sym, ap, _∙_}
 use Prim.Native.Nat.{ℕ, _+_, _*_, _-_, _≤_}
 use native.Mathlib.Omega.{arith}
 use Rattle.paper.specs.Job.{entryOffset, entriesOk, contentsEnd}
-use Rattle.bodies.proofs.RangeSteps.{test-failed, test-passed}
+use Rattle.paper.proofs.RangeSteps.{test-failed, test-passed}
 use Rattle.bodies.proofs.EntrySteps.{entries-next, entries-misplaced, entries-wrong-length, entries-end}
 use Rattle.bodies.proofs.contents.entries_ok.Statement.{statement}
 use Rattle.bodies.proofs.contents.entries_ok.Tie as tie

@@ -6,7 +6,7 @@ use native.Mathlib.Omega.{arith}
 use Rattle.curves.specs.Grid.{chain, holds}
 use Rattle.paper.specs.Job.{decodePlace}
 use Rattle.paper.proofs.Tests.{dimension-range}
-use Rattle.bodies.proofs.RangeSteps.{test-failed, test-passed}
+use Rattle.paper.proofs.RangeSteps.{test-failed, test-passed}
 use Rattle.bodies.proofs.ChainSteps.{masksAt, chain-next, chain-high, chain-not-held, chain-same, chain-ends, masks-are, limit-is, one-below}
 use Rattle.bodies.proofs.places.chain_ok.Statement.{statement}
 use Rattle.bodies.proofs.places.chain_ok.Tie as tie

@@ -9,7 +9,7 @@ use Rattle.curves.specs.Grid.{chain, placeOk}
 use Rattle.paper.specs.Job.{decodePlace}
 use Rattle.paper.specs.Bytes.{byte}
 use Rattle.paper.proofs.Tests.{dimension-range}
-use Rattle.bodies.proofs.RangeSteps.{test-failed, test-passed}
+use Rattle.paper.proofs.RangeSteps.{test-failed, test-passed}
 use Rattle.bodies.proofs.ChainSteps.{place-is}
 use Rattle.bodies.proofs.places.place_ok.Statement.{statement}
 use Rattle.bodies.proofs.places.place_ok.Tie as tie

@@ -1,8 +1,8 @@
 -- `terms::exponent` meets its contract.
 use borrow.Author.Needs.{needs}
 use Rattle.paper.specs.Job.{exponentOf}
-use Rattle.bodies.proofs.terms.exponent.Statement.{statement}
-use Rattle.bodies.proofs.terms.exponent.Tie as tie
+use Rattle.terms.proofs.exponent.Statement.{statement}
+use Rattle.terms.proofs.exponent.Tie as tie
 
 mul-byte : tie.Need-mul-byte
 mul-byte c = search needs

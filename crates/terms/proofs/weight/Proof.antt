@@ -1,21 +1,30 @@
--- `terms::degree` meets its contract.
+-- `terms::weight` meets its contract.
 use native.Mathlib.Omega.{arith}
 use borrow.Author.Needs.{needs}
-use Rattle.paper.specs.Job.{degree}
-use Rattle.bodies.proofs.terms.degree.Statement.{statement}
-use Rattle.bodies.proofs.terms.degree.Tie as tie
+use Rattle.paper.specs.Job.{exponentWeight}
+use Rattle.terms.proofs.weight.Statement.{statement}
+use Rattle.terms.proofs.weight.Tie as tie
 
 exponent-requires : tie.Need-exponent-requires
 exponent-requires c κs = search needs
 
+mul-result : tie.Need-mul-result
+mul-result c = search needs
+
 exponent-requires-2 : tie.Need-exponent-requires-2
 exponent-requires-2 c κs = search needs
+
+mul-result-2 : tie.Need-mul-result-2
+mul-result-2 c = search needs
 
 add-result : tie.Need-add-result
 add-result c = search needs
 
 exponent-requires-3 : tie.Need-exponent-requires-3
 exponent-requires-3 c κs = search needs
+
+mul-result-3 : tie.Need-mul-result-3
+mul-result-3 c = search needs
 
 add-result-2 : tie.Need-add-result-2
 add-result-2 c = search needs
@@ -27,17 +36,20 @@ add-result-3 : tie.Need-add-result-3
 add-result-3 c = search needs
 
 returns : tie.Need-returns
-unfolding degree
+unfolding exponentWeight
 returns c = omega arith
 
-pub degree-spec : {M : Type 1} → statement M
-degree-spec =
+pub weight-spec : {M : Type 1} → statement M
+weight-spec =
     tie.close
     (tie.spec
     exponent-requires
+    mul-result
     exponent-requires-2
+    mul-result-2
     add-result
     exponent-requires-3
+    mul-result-3
     add-result-2
     exponent-requires-4
     add-result-3

@@ -7,10 +7,10 @@ use borrow.Author.Needs.{needs}
 use borrow.Author.Tests.{eq-eqb, ne-eqb, le-leb, lt-leb}
 use Rattle.paper.specs.Bytes.{signedDoubleWord}
 use Rattle.bits.proofs.SignedBits.{read-bits, read-size}
-use Rattle.bodies.proofs.RangeSteps.{test-failed, test-passed}
-use Rattle.bodies.proofs.AxisAndTerm.{term-test}
-use Rattle.bodies.proofs.terms.term_ok.Statement.{statement}
-use Rattle.bodies.proofs.terms.term_ok.Tie as tie
+use Rattle.paper.proofs.RangeSteps.{test-failed, test-passed}
+use Rattle.terms.proofs.TermTest.{term-test}
+use Rattle.terms.proofs.term_ok.Statement.{statement}
+use Rattle.terms.proofs.term_ok.Tie as tie
 
 -- the size that the code tests is the coefficient's
 sized : (c : tie.After-size) → c .size .result ≡ natAbs (signedDoubleWord (c .before .before .before .args .b .now) (8 * c .before .before .before .args .i))

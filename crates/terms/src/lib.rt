@@ -1,12 +1,17 @@
 // A polynomial: 8 bytes a term, a signed 32-bit coefficient and four exponent bytes.
 
-use crate::limits;
 use bits::read;
 ghost use mathlib.Core.Path.{_≡_};
 ghost use Prim.Native.Nat.{_+_, _*_, _-_, _≤_, _<_};
 ghost use lib.ListN.{length};
 ghost use Rattle.paper.specs.Job.{exponentOf, exponentsZero, degree, termOk, exponentWeight, rises, polynomialOk};
 ghost use Rattle.bits.specs.Read.{Reads};
+
+// The size of a coefficient.
+const COEFFICIENT: u64 = 1048576;
+
+// The sum of a term's exponents.
+const DEGREE: u64 = 4;
 
 // The exponent of axis a in term i.
 fn exponent(b: &[u8], i: usize, a: usize) -> u64
@@ -48,13 +53,13 @@ fn term_ok(n: usize, b: &[u8], i: usize) -> bool
     if m == 0 {
         return false;
     }
-    if limits::COEFFICIENT < m {
+    if COEFFICIENT < m {
         return false;
     }
     if !upper_exponents_zero(n, b, i) {
         return false;
     }
-    degree(b, i) <= limits::DEGREE
+    degree(b, i) <= DEGREE
 }
 
 // A term's exponents as the digits of a number, axis 1 weighing most.

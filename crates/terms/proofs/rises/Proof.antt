@@ -2,8 +2,8 @@
 use borrow.Author.Needs.{needs}
 use borrow.Author.Tests.{eq-eqb, ne-eqb}
 use Rattle.paper.specs.Job.{rises}
-use Rattle.bodies.proofs.terms.rises.Statement.{statement}
-use Rattle.bodies.proofs.terms.rises.Tie as tie
+use Rattle.terms.proofs.rises.Statement.{statement}
+use Rattle.terms.proofs.rises.Tie as tie
 
 returns : tie.Need-returns
 unfolding rises

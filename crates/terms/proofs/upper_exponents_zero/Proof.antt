@@ -5,9 +5,9 @@ use native.Mathlib.Omega.{arith}
 use lib.Dec.{eqb}
 use borrow.Author.Tests.{eq-eqb, ne-eqb}
 use Rattle.paper.specs.Job.{exponentOf, allFrom, exponentsZero}
-use Rattle.bodies.proofs.RangeSteps.{all-next, all-stops, all-ends}
-use Rattle.bodies.proofs.terms.upper_exponents_zero.Statement.{statement}
-use Rattle.bodies.proofs.terms.upper_exponents_zero.Tie as tie
+use Rattle.paper.proofs.RangeSteps.{all-next, all-stops, all-ends}
+use Rattle.terms.proofs.upper_exponents_zero.Statement.{statement}
+use Rattle.terms.proofs.upper_exponents_zero.Tie as tie
 
 abbrev Inv-loop : tie.InvT-loop
 Inv-loop n b i a₀ a = exponentsZero b i n (4 - n) ≡ allFrom (λ k. eqb (exponentOf b i k) 0) a (4 - a)

@@ -1,30 +1,21 @@
--- `terms::weight` meets its contract.
+-- `terms::degree` meets its contract.
 use native.Mathlib.Omega.{arith}
 use borrow.Author.Needs.{needs}
-use Rattle.paper.specs.Job.{exponentWeight}
-use Rattle.bodies.proofs.terms.weight.Statement.{statement}
-use Rattle.bodies.proofs.terms.weight.Tie as tie
+use Rattle.paper.specs.Job.{degree}
+use Rattle.terms.proofs.degree.Statement.{statement}
+use Rattle.terms.proofs.degree.Tie as tie
 
 exponent-requires : tie.Need-exponent-requires
 exponent-requires c κs = search needs
 
-mul-result : tie.Need-mul-result
-mul-result c = search needs
-
 exponent-requires-2 : tie.Need-exponent-requires-2
 exponent-requires-2 c κs = search needs
-
-mul-result-2 : tie.Need-mul-result-2
-mul-result-2 c = search needs
 
 add-result : tie.Need-add-result
 add-result c = search needs
 
 exponent-requires-3 : tie.Need-exponent-requires-3
 exponent-requires-3 c κs = search needs
-
-mul-result-3 : tie.Need-mul-result-3
-mul-result-3 c = search needs
 
 add-result-2 : tie.Need-add-result-2
 add-result-2 c = search needs
@@ -36,20 +27,17 @@ add-result-3 : tie.Need-add-result-3
 add-result-3 c = search needs
 
 returns : tie.Need-returns
-unfolding exponentWeight
+unfolding degree
 returns c = omega arith
 
-pub weight-spec : {M : Type 1} → statement M
-weight-spec =
+pub degree-spec : {M : Type 1} → statement M
+degree-spec =
     tie.close
     (tie.spec
     exponent-requires
-    mul-result
     exponent-requires-2
-    mul-result-2
     add-result
     exponent-requires-3
-    mul-result-3
     add-result-2
     exponent-requires-4
     add-result-3

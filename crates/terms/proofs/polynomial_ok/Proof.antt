@@ -5,9 +5,9 @@ use Prim.Native.Nat.{_-_, _/_}
 use native.Mathlib.Omega.{arith}
 use lib.ListN.{length}
 use Rattle.paper.specs.Job.{allFrom, termCount, termOk, rises, polynomialOk}
-use Rattle.bodies.proofs.RangeSteps.{test-failed, test-passed, all-next, all-stops, all-ends}
-use Rattle.bodies.proofs.terms.polynomial_ok.Statement.{statement}
-use Rattle.bodies.proofs.terms.polynomial_ok.Tie as tie
+use Rattle.paper.proofs.RangeSteps.{test-failed, test-passed, all-next, all-stops, all-ends}
+use Rattle.terms.proofs.polynomial_ok.Statement.{statement}
+use Rattle.terms.proofs.polynomial_ok.Tie as tie
 
 abbrev Inv-loop : tie.InvT-loop
 Inv-loop n b terms i₀ i = polynomialOk n b ≡ allFrom (λ k. termOk n b k && rises b k) i (length b / 8 - i)
