@@ -30,7 +30,7 @@ unfolding placeAt remove masksFrom sideOf
 place-behind c [] i = refl
 place-behind c (a ∷ o) i = refl
 
-pub incidence-flat : (n : ℕ) (p : Place) → flat n (p .facet .masks) ≡ true → incidence n p ≡ flatSide n (p .facet) (p .side)
+incidence-flat : (n : ℕ) (p : Place) → flat n (p .facet .masks) ≡ true → incidence n p ≡ flatSide n (p .facet) (p .side)
 unfolding incidence
 incidence-flat n p e = ap (λ (t : Bool). cond t (flatSide n (p .facet) (p .side)) (bentSide n (p .facet) (p .side))) e
 

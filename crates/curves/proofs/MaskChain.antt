@@ -38,7 +38,7 @@ chain-link n before m ms h =
       rest = and-right (not (eqb m before)) (chain n m ms) h2;
     }
 
-pub link-chain : (n before m : ℕ) (ms : List ℕ) → Link n before m ms → chain n before (m ∷ ms) ≡ true
+link-chain : (n before m : ℕ) (ms : List ℕ) → Link n before m ms → chain n before (m ∷ ms) ≡ true
 unfolding chain
 link-chain n before m ms k =
     both (lt-ltb m (2 ^ n) (k .bound)) (both (k .held) (both (ap not (ne-eqb m before (k .changed))) (k .rest)))

@@ -71,23 +71,12 @@ pub sameFacet-complete : (f g : Facet) → f ≡ g → sameFacet f g ≡ true
 unfolding sameFacet
 sameFacet-complete f g e = rw (← e) (both (sameVertex-refl (f .low)) (sameMasks-refl (f .masks)))
 
-pub sameVertex-complete : (v w : Vertex) → v ≡ w → sameVertex v w ≡ true
-sameVertex-complete v w e = rw (← e) (sameVertex-refl v)
-
 pub sameMasks-complete : (l m : List ℕ) → l ≡ m → sameMasks l m ≡ true
 sameMasks-complete l m e = rw (← e) (sameMasks-refl l)
 
 -- a test that fails tells two facets apart
 pub sameFacet-apart : (f g : Facet) → sameFacet f g ≡ false → f ≡ g → ⊥
 sameFacet-apart f g e q = false≢true (sym e ∙ sameFacet-complete f g q)
-
--- ---- decidable equality
-pub Facet-discrete : Discrete Facet
-Facet-discrete f g = go (sameFacet f g) refl
-  where
-    go : (t : Bool) → sameFacet f g ≡ t → Dec (f ≡ g)
-    go true e = yes (sameFacet-sound f g e)
-    go false e = no (sameFacet-apart f g e)
 
 -- ---- turned places
 

@@ -4,7 +4,7 @@
 use Prim.Native.Nat.{ℕ, suc, zero, _+_, _/_, _%_, _^_, _<_}
 use mathlib.Core.Path.{_≡_, refl, sym, ap, _∙_}
 use mathlib.Core.Bool.{true}
-use mathlib.Core.List.{List, [], _∷_, map, List·Memᴰ, List·Memᴰ·cases-cons, List·Memᴰ·eq-of-singleton, List·Memᴰ·not-nil}
+use mathlib.Core.List.{List, [], _∷_, map, List·Memᴰ, List·Memᴰ·cases-cons, List·Memᴰ·eq-of-singleton}
 use mathlib.Core.Logic.{⊎-elim}
 use native.Mathlib.Omega.{arith}
 use lib.ListN.{length}
@@ -113,17 +113,6 @@ vertex-length c [] v m = ap length (List·Memᴰ·eq-of-singleton m)
 vertex-length c (a ∷ o) v m =
     ⊎-elim (λ e. ap length e) (λ k. vertex-length (up a c) o v k ∙ length-up a c) (List·Memᴰ·cases-cons m)
 
-map-plus-length : (c : Vertex) (ms : List ℕ) (v : Vertex) → List·Memᴰ v (map (plus c) ms) → length v ≡ length c
-map-plus-length c [] v m = absurd (List·Memᴰ·not-nil m)
-map-plus-length c (k ∷ ms) v m =
-    ⊎-elim (λ e. ap length e ∙ length-plus c k) (λ r. map-plus-length c ms v r) (List·Memᴰ·cases-cons m)
-
 pub facet-low-length : (n : ℕ) (f : Facet) → facetOk n f ≡ true → length (f .low) ≡ n
 unfolding facetOk
 facet-low-length n f e = eqb-true (length (f .low)) n (and-left _ _ e)
-
--- every vertex of a well-formed facet has n coordinates
-pub facet-vertex-length : (n : ℕ) (f : Facet) (v : Vertex) → facetOk n f ≡ true → List·Memᴰ v (facetVertices f) → length v ≡ n
-unfolding facetVertices
-facet-vertex-length n f v e m =
-    ⊎-elim (λ q. ap length q) (λ r. map-plus-length (f .low) (f .masks) v r) (List·Memᴰ·cases-cons m) ∙ facet-low-length n f e

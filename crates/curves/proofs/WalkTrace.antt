@@ -46,7 +46,7 @@ module _ {P W : Type 0} (step : P → Next P W) (same : P → P → Bool) (s : P
       ap (afterStep same (λ y. traceFrom step same s a y) s x) e ∙ ap (afterTest (λ y. traceFrom step same s a y) x y) f
 
   -- What holds in each of the three cases behind a written place holds of the trace.
-  pub traceFrom-cases :
+  traceFrom-cases :
       (Q : Trace P W → Type 0) (a : ℕ) (x : P) →
       ((w : W) → step x ≡ stop w → Q (ended x (stopped w))) →
       ((y : P) → step x ≡ go y → same y s ≡ true → Q (ended x loop)) →

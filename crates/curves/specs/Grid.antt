@@ -1,7 +1,6 @@
 -- The grid: document 01, section "The grid", over the dimension n. Axis j of the paper is the number j − 1 here, so that
 -- bit a of a mask stands for axis a. Values and boxes have no part in it.
-use Prim.Native.Nat.{ℕ, suc, zero, _+_, _-_, _*_, _/_, _%_, _^_, _<_}
-use mathlib.Core.Path.{_≡_}
+use Prim.Native.Nat.{ℕ, suc, zero, _+_, _-_, _/_, _%_, _^_}
 use mathlib.Core.Bool.{Bool, true, false, not, cond, _&&_}
 use mathlib.Core.List.{List, [], _∷_, _++_, map, reverse}
 use lib.IntN.{ℤ, pos}
@@ -9,7 +8,7 @@ use lib.ListN.{length}
 use lib.Dec.{leb, ltb, eqb}
 use lib.Signed.{leZ}
 use lib.Count.{ones}
-use Rattle.exact.specs.Int.{_⊕_, _⊖_, 0ℤ, 1ℤ}
+use Rattle.exact.specs.Int.{_⊕_, _⊖_, 1ℤ}
 use Rattle.exact.specs.Crossed.{remove}
 
 -- ---- vertices and masks

@@ -1,13 +1,13 @@
 -- Crossed facets, readable simplices and the step, over the dimension n, over any values at the vertices, any box and any
 -- test of which vertices are readable: document 01, sections "Crossed" and "Step".
 use Prim.Native.Nat.{ℕ}
-use mathlib.Core.Bool.{Bool, true, false, cond, _&&_}
+use mathlib.Core.Bool.{Bool, true, cond, _&&_}
 use mathlib.Core.List.{List, [], _∷_, map}
 use lib.IntN.{ℤ}
 use Rattle.exact.specs.Int.{1ℤ}
 use Rattle.exact.specs.Det.{Column}
 use Rattle.exact.specs.Crossed.{crossed, exit}
-use Rattle.curves.specs.Grid.{Vertex, Facet, Place, Incidence, facetVertices, facetOk, placeOk, vertices, incidence, placeOf, turn}
+use Rattle.curves.specs.Grid.{Vertex, Facet, Place, Incidence, facetVertices, placeOk, vertices, incidence, placeOf, turn}
 use Rattle.curves.specs.Walk.{Next, stop, go}
 
 -- why a step ends: a vertex outside the box, or one whose values are not readable

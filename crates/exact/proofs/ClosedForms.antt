@@ -15,10 +15,6 @@ ifNone-nil : ifNone {C = Column} [] ≡ 1ℤ
 unfolding ifNone
 ifNone-nil = refl
 
-pub determinant-1 : (a : Column) → determinant 1 (a ∷ []) ≡ getD a 0 0ℤ
-unfolding determinant det rowsFrom laplace
-determinant-1 a = simp (ring, ifNone-nil, one-mul)
-
 pub determinant-2 : (a b : Column) → determinant 2 (a ∷ b ∷ []) ≡ getD a 0 0ℤ ⊗ getD b 1 0ℤ ⊖ getD b 0 0ℤ ⊗ getD a 1 0ℤ
 unfolding determinant det rowsFrom laplace
 determinant-2 a b = simp (ring, ifNone-nil, one-mul)

@@ -68,17 +68,6 @@ otherCrossed-is n us p none k (suc m) q l u h before =
     go (yes e) later = otherCrossed-here n us p none k _ (ap (isOther n us p) e ∙ h) ∙ e
     go (no d) later = otherCrossed-later n us p none k _ (before k (omega arith) (omega arith)) ∙ later (omega arith) (omega arith)
 
--- it ends with `none`, if nothing passes the test
-pub otherCrossed-none :
-    (n : ℕ) (us : List Column) (p none k m : ℕ)
-    → ((j : ℕ) → k ≤ j → j < k + m → isOther n us p j ≡ false)
-    → otherCrossed n us p none (countFrom k m) ≡ none
-unfolding countFrom otherCrossed
-otherCrossed-none n us p none k zero h = refl
-otherCrossed-none n us p none k (suc m) h =
-    otherCrossed-later n us p none k (countFrom (suc k) m) (h k (omega arith) (omega arith))
-    ∙ otherCrossed-none n us p none (suc k) m (λ j l u. h j (omega arith) (omega arith))
-
 -- ---- the exit
 
 -- a test that does not hold fails
@@ -98,15 +87,3 @@ exit-only n us p q o =
         go : Dec (p ≡ j) → isOther n us p j ≡ false
         go (yes e) = ap (λ x. isOther n us x j) e ∙ isOther-self n us j
         go (no d) = isOther-other n us p j d ∙ is-false _ (λ c. let e : j ≡ q = o .only j (omega (arith, o .low)) d c in omega arith)
-
--- the exit is n + 1, where no other facet is crossed
-pub exit-none : (n : ℕ) (us : List Column) (p : ℕ) → ((q : ℕ) → q ≤ n → p ≢ q → crossed n (remove q us) ≡ false) → exit n us p ≡ suc n
-unfolding exit
-exit-none n us p h = otherCrossed-none n us p (suc n) 0 (suc n) fails
-  where
-    fails : (j : ℕ) → 0 ≤ j → j < 0 + suc n → isOther n us p j ≡ false
-    fails j l u = go (ℕ-discrete p j)
-      where
-        go : Dec (p ≡ j) → isOther n us p j ≡ false
-        go (yes e) = ap (λ x. isOther n us x j) e ∙ isOther-self n us j
-        go (no d) = isOther-other n us p j d ∙ h j (omega arith) d

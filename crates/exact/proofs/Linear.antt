@@ -9,7 +9,7 @@ use native.Mathlib.Omega.{arith}
 use lib.Dec.{leb→le, le→leb, ltb→lt, lt→ltb}
 use lib.IntN.{ℤ, pos, negsuc}
 use lib.Signed.{_≤ℤ_, _<ℤ_}
-use Rattle.exact.specs.Int.{_⊕_, _⊖_, _⊗_, neg, 0ℤ, 1ℤ}
+use Rattle.exact.specs.Int.{_⊕_, _⊖_, _⊗_, neg, 1ℤ}
 use Rattle.exact.proofs.Ring.{add-comm, zero-add, add-zero}
 use Rattle.exact.proofs.Solver.{var, _:+_, _:-_, _:*_, :neg, solve}
 
@@ -139,9 +139,6 @@ pub ruleset linear = (pos-diff, negsuc-diff, diff-add, diff-sub, diff-mul, diff-
 -- leave the hypotheses in the goal (bind only the numbers), split each number, rewrite by the set, and call omega
 pub add-le-add : (a b c d : ℤ) → a ≤ℤ b → c ≤ℤ d → a ⊕ c ≤ℤ b ⊕ d
 add-le-add a b c d = rw (split a, split b, split c, split d) (simp linear (omega arith))
-
-pub eq-of-sub-zero : (a b : ℤ) → a ⊖ b ≡ 0ℤ → a ≡ b
-eq-of-sub-zero a b = rw (split a, split b) (simp linear (omega arith))
 
 -- a product of two variables is an unknown to omega; a multiple by a constant is linear
 twice-lt : (a b : ℤ) → a <ℤ b → pos 2 ⊗ a ⊕ 1ℤ <ℤ pos 2 ⊗ b

@@ -8,10 +8,10 @@ use mathlib.Core.Logic.{_≢_}
 use mathlib.Core.Bool.{Bool, true, false, not, _&&_}
 use mathlib.Core.List.{List, [], _∷_, _++_, map}
 use lib.IntN.{ℤ}
-use lib.ListN.{set, replicate, length}
+use lib.ListN.{set, replicate}
 use lib.Dec.{eqb}
 use Rattle.exact.specs.Int.{0ℤ, 1ℤ}
-use Rattle.exact.specs.Sign.{Sign, negative, nought, positive, sign, lexSign, sameSign}
+use Rattle.exact.specs.Sign.{Sign, nought, sign, lexSign, sameSign}
 use Rattle.exact.specs.Det.{Column, determinant}
 
 -- 0, 1, .., m − 1, begun at k

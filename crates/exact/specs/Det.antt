@@ -5,7 +5,7 @@ use Prim.Native.Nat.{ℕ, suc, zero}
 use mathlib.Core.List.{List, [], _∷_}
 use lib.IntN.{ℤ}
 use lib.ListN.{getD}
-use Rattle.exact.specs.Int.{_⊕_, _⊖_, _⊗_, neg, 0ℤ, 1ℤ}
+use Rattle.exact.specs.Int.{_⊖_, _⊗_, 0ℤ, 1ℤ}
 
 -- a column of a matrix of numbers, top entry first; entries below its end are 0
 abbrev pub Column : Type 0

@@ -2,7 +2,7 @@
 -- a call of one stays a call until a proof says `unfolding`, so that laws can be found by their shape.
 -- Nothing is assumed.
 use Prim.Native.Nat.{ℕ, suc, zero}
-use lib.IntN.{ℤ, pos, negsuc, negℤ, _+ℤ_, _*ℤ_}
+use lib.IntN.{ℤ, pos, negℤ, _+ℤ_, _*ℤ_}
 
 infixl 65 _⊕_ _⊖_
 infixl 70 _⊗_

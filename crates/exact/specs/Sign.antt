@@ -1,5 +1,5 @@
 -- The sign of a whole number, and the sign of the first number of a list that is not 0 (the lexicographic sign).
-use Prim.Native.Nat.{ℕ, suc, zero}
+use Prim.Native.Nat.{suc, zero}
 use mathlib.Core.Bool.{Bool, true, false}
 use mathlib.Core.List.{List, [], _∷_}
 use lib.IntN.{ℤ, pos, negsuc}

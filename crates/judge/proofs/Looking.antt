@@ -68,7 +68,7 @@ handed-size s = subst (Size 1048576) (sym (size-kept s)) (size-weaken s (lit≤ 
 pub handed-near : {r : Placed} → PlaceSize r → VertexSize 1048576 (handed r)
 handed-near h = record { x = handed-size (h .x); y = handed-size (h .y); z = handed-size (h .z) }
 
-pub handed-facet : (n : ℕ) {r : Placed} → PlaceSize r → facetAs n (handed r) (r .mask1) (r .mask2) ≡ placedFacet n r
+handed-facet : (n : ℕ) {r : Placed} → PlaceSize r → facetAs n (handed r) (r .mask1) (r .mask2) ≡ placedFacet n r
 unfolding facetAs placedFacet vertexAs
 handed-facet n {r} h = λ i. record {
   low = lowVertex n (size-kept (h .x) i) (size-kept (h .y) i) (size-kept (h .z) i);

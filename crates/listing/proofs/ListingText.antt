@@ -1,11 +1,11 @@
 -- The listing of a job by its cases: too long, refused, or the lines of its trace.
 use Prim.Native.Nat.{ℕ, _+_, _≤_, _<_}
-use mathlib.Core.Path.{_≡_, refl, sym, ap, _∙_}
+use mathlib.Core.Path.{_≡_, sym, ap, _∙_}
 use mathlib.Core.List.{List, _++_}
 use lib.ListN.{length}
 use borrow.Author.Tests.{lt-ltb, le-ltb}
 use Rattle.paper.specs.Job.{dimension}
-use Rattle.paper.specs.Operations.{Answer, refused, answered, traced}
+use Rattle.paper.specs.Operations.{answered, traced}
 use Rattle.paper.specs.Answers.{verdictAs}
 use Rattle.paper.specs.Listing.{refusedLine, firstLine, placeLines, listingSpace, longestJob, listingLines, listing}
 use Rattle.paper.specs.Demand3.{readPlaces}

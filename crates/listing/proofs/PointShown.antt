@@ -1,7 +1,7 @@
 -- Point's answer has room for three axes; its first n numbers are the place's point.
 use Prim.Native.Nat.{ℕ, suc, zero, _≤_}
 use mathlib.Core.Path.{_≡_, refl, sym, ap, ap₂, _∙_}
-use mathlib.Core.List.{List, [], _∷_, map}
+use mathlib.Core.List.{List, [], _∷_}
 use native.Mathlib.Omega.{arith}
 use lib.IntN.{ℤ}
 use lib.ListN.{length, take, length-map}
@@ -11,7 +11,7 @@ use Rattle.exact.specs.Crossed.{countFrom}
 use Rattle.curves.specs.Grid.{Vertex}
 use Rattle.paper.specs.Job.{dimension, decodePlace}
 use Rattle.paper.specs.Values.{fieldOf, pointFrom, pointOf}
-use Rattle.paper.specs.Operations.{Answer, refused, answered, facetOf, pointRefusal, pointed}
+use Rattle.paper.specs.Operations.{refused, answered, facetOf, pointRefusal, pointed}
 use Rattle.paper.specs.Answers.{padded, paddedPoint, pointedAs}
 use Rattle.paper.specs.declared.StepPoint.{StepPoint}
 use Rattle.paper.specs.declared.Pointed as Pointed

@@ -1,9 +1,8 @@
 -- What Trace leaves in a buffer for 4,096 places, read back, is the trace; and what the lines of the listing ask of it.
-use Prim.Native.Nat.{ℕ, suc, zero, _+_, _*_, _/_, _-_, _≤_, _<_}
+use Prim.Native.Nat.{ℕ, _+_, _*_, _-_, _≤_}
 use mathlib.Core.Path.{_≡_, refl, sym, ap, subst, _∙_}
 use mathlib.Core.Logic.{_⊎_, inl, inr, ⊎-elim}
-use mathlib.Core.Bool.{true}
-use mathlib.Core.List.{List, [], _∷_, _++_, append-assoc}
+use mathlib.Core.List.{List, _++_, append-assoc}
 use native.Mathlib.Omega.{arith}
 use native.Mathlib.Nat.{mul-le-mul-left, eq-or-lt-of-le}
 use lib.ListN.{length, take, drop}
@@ -15,7 +14,6 @@ use Rattle.curves.specs.Walk as Walk
 use Rattle.curves.specs.Step.{Stop}
 use Rattle.curves.specs.Joined.{Tracable}
 use Rattle.curves.proofs.WalkTrace.{trace-length}
-use Rattle.paper.specs.Limits.{dimensionOk}
 use Rattle.paper.specs.Job.{dimension, openRefusal}
 use Rattle.paper.specs.Values.{fieldOf}
 use Rattle.paper.specs.Operations.{Answer, refused, answered, stepIn, startOf, traceRefusal, sameSpot, traced, spaceOf, verdictAndCount, encodePlaces, bufferAfter}
@@ -24,7 +22,7 @@ use Rattle.paper.specs.Listing.{listingSpace}
 use Rattle.paper.specs.Demand3.{readPlaces}
 use Rattle.paper.specs.declared.Verdict.{Verdict}
 use Rattle.paper.specs.declared.Traced as Traced
-use Rattle.paper.proofs.Tests.{two-or-three, DimensionRange}
+use Rattle.paper.proofs.Tests.{DimensionRange}
 use Rattle.paper.proofs.Refusals.{first-refuses, unless-refused, answered-inv}
 use Rattle.paper.proofs.Opens.{Opens, opens, opens-range}
 use Rattle.paper.proofs.StartTracable.{trace-opens, start-tracable}

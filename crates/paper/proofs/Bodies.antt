@@ -151,10 +151,6 @@ module _ {s : List ℕ} (o : Opens s) where
   unfolding body byte
   body-byte k i l = rw (getD-take, getD-drop)
 
-  -- the contents lie inside the job
-  pub contents-inside-job : contentsEnd (dimension s) ≤ length s
-  contents-inside-job = contents-long (dimension s) s (o .contents)
-
   -- the first body follows the contents
   pub first-offset : entryOffset s 0 ≡ contentsEnd (dimension s)
   first-offset =
@@ -187,15 +183,7 @@ module _ {s : List ℕ} (o : Opens s) where
   pub polynomial-length : (k : ℕ) → 0 < k → k < dimension s → PolynomialLength (dimension s) (length (body s k))
   polynomial-length k p u = contents-polynomial-length (dimension s) s (o .contents) k p u
 
-  -- a polynomial is 8 bytes a term, 1 term at least and at most the limit
-  pub terms-length : (k : ℕ) → 0 < k → k < dimension s → length (body s k) ≡ 8 * termCount (body s k)
-  unfolding termCount
-  terms-length k p u = let f = polynomial-length k p u in omega arith
-
-  pub terms-low : (k : ℕ) → 0 < k → k < dimension s → 1 ≤ termCount (body s k)
-  unfolding termCount
-  terms-low k p u = let f = polynomial-length k p u in omega arith
-
+  -- a polynomial has no more terms than the limit
   pub terms-high : (k : ℕ) → 0 < k → k < dimension s → termCount (body s k) ≤ termLimit (dimension s)
   unfolding termCount
   terms-high k p u = let f = polynomial-length k p u in omega arith

@@ -15,7 +15,7 @@ use Rattle.exact.specs.Crossed.{countFrom}
 use Rattle.curves.specs.Grid as Grid
 use Rattle.curves.specs.Grid.{Vertex, Place}
 use Rattle.curves.specs.Step as Step
-use Rattle.curves.specs.Step.{Stop, edge, limit}
+use Rattle.curves.specs.Step.{Stop, edge}
 use Rattle.curves.specs.Walk as Walk
 use Rattle.curves.specs.Walk.{Verdict, loop, stopped, full}
 use Rattle.paper.specs.Bytes as Bytes

@@ -3,7 +3,7 @@
 use Prim.Native.Nat.{ℕ, suc, zero, _+_, _*_, _-_, _/_, _%_, _^_, _≤_, _<_}
 use native.Mathlib.Omega.{arith}
 use mathlib.Core.Path.{_≡_, refl, sym, ap, subst, _∙_}
-use mathlib.Core.Bool.{Bool, true}
+use mathlib.Core.Bool.{true}
 use mathlib.Core.List.{List, [], _∷_, _++_, map}
 use lib.IntN.{ℤ}
 use lib.ListN.{length, drop, getD, length-append, drop-of-length-le}
@@ -20,7 +20,7 @@ use Rattle.paper.specs.Bytes.{byte, word, signed, signedWord, wordOf, wo
 use Rattle.paper.specs.Job.{decodePlace, vertexBytes, encodePlace}
 use Rattle.paper.specs.Short.{short, shortPlace}
 use Rattle.paper.proofs.Tests.{and-left, and-right, and-true}
-use Rattle.paper.proofs.WordBytes.{wordOf-under, signed-wordOf, word-together, short-signed, wordBytes-signed}
+use Rattle.paper.proofs.WordBytes.{wordOf-under, signed-wordOf, word-together, wordBytes-signed}
 
 -- ---- lengths
 
@@ -100,16 +100,6 @@ pub encode-injective : (n : ℕ) (p q : Place) → placeOk n p ≡ true → shor
 encode-injective n p q hp wp hq wq e = sym (decode-encode n p hp wp) ∙ (ap (decodePlace n) e ∙ decode-encode n q hq wq)
 
 -- ---- the bytes of what was read
-
--- every place that is read has short coordinates
-every-map : {A B : Type 0} (t : B → Bool) (f : A → B) (l : List A) → ((a : A) → t (f a) ≡ true) → every t (map f l) ≡ true
-unfolding every
-every-map t f [] h = refl
-every-map t f (a ∷ l) h = and-true (h a) (every-map t f l h)
-
-pub decode-short : (n : ℕ) (b : List ℕ) → shortPlace (decodePlace n b) ≡ true
-unfolding shortPlace decodePlace signedWord
-decode-short n b = every-map short (λ a. signedWord b (2 * a)) (countFrom 0 n) (λ a. short-signed (word b (2 * a)))
 
 first-two : (b : List ℕ) (k j : ℕ) → k + 2 ≡ j → j ≤ length b → drop k b ≡ byte b k ∷ byte b (k + 1) ∷ drop j b
 unfolding byte

@@ -2,7 +2,7 @@
 -- number they read as. Every number that two bytes read as lies in that range.
 use Prim.Native.Nat.{ℕ, _+_, _*_, _-_, _/_, _%_, _≤_, _<_}
 use native.Mathlib.Omega.{arith}
-use mathlib.Core.Path.{_≡_, refl, sym, ap, subst, _∙_}
+use mathlib.Core.Path.{_≡_, refl, ap, _∙_}
 use mathlib.Core.Bool.{Bool, true, false}
 use mathlib.Core.List.{[], _∷_}
 use lib.IntN.{ℤ, pos, negsuc}
@@ -41,21 +41,6 @@ pub word-together : (u : ℕ) → u % 256 + 256 * (u / 256) ≡ u
 word-together u = omega arith
 
 -- ---- the bytes of a number that was read
-
-pub short-signed : (u : ℕ) → short (signed 32768 u) ≡ true
-short-signed u = go (ltb u 32768) refl
-  where
-    low : (v : ℕ) → v < 32768 → short (pos v) ≡ true
-    low v h = unfold short in lt-ltb v 32768 h
-
-    high : (v : ℕ) → v < 32768 → short (negsuc v) ≡ true
-    high v h = unfold short in lt-ltb v 32768 h
-
-    go : (b : Bool) → ltb u 32768 ≡ b → short (signed 32768 u) ≡ true
-    go true e = subst (λ z. short z ≡ true) (sym (signed-low 32768 u (ltb-true _ _ e))) (low u (ltb-true _ _ e))
-    go false e =
-        let l : 32768 ≤ u = ltb-false _ _ e in
-        subst (λ z. short z ≡ true) (sym (signed-high 32768 u l)) (high _ (omega arith))
 
 pub wordOf-signed : (u : ℕ) → u < 65536 → wordOf (signed 32768 u) ≡ u
 unfolding wordOf

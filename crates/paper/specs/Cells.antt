@@ -1,7 +1,7 @@
 -- How the code holds facets and simplices. The columns stand in one array: entry r of column i at 3 * i + r; the entries from r = n on do
 -- not count. The masks are two numbers and a vertex three, of which the first n − 1 and the first n count.
 -- `FacetCells` is what every function over a readable facet asks.
-use Prim.Native.Nat.{ℕ, suc, zero, _+_, _*_, _-_, _<_}
+use Prim.Native.Nat.{ℕ, _+_, _*_, _-_, _<_}
 use mathlib.Core.Path.{_≡_}
 use mathlib.Core.Bool.{true}
 use mathlib.Core.List.{List, [], _∷_, map}

@@ -2,13 +2,13 @@
 use Prim.Native.Nat.{ℕ, suc, zero, _+_, _*_, _-_, _/_, _%_}
 use mathlib.Core.Bool.{Bool, true, false, not, cond, _&&_, _||_}
 use mathlib.Core.List.{List, [], _∷_, _++_, map}
-use lib.IntN.{ℤ, pos, negsuc, natAbs}
+use lib.IntN.{ℤ, pos, natAbs}
 use lib.ListN.{length, take, drop}
 use lib.Dec.{leb, ltb, eqb}
 use lib.Signed.{leZ, ltZ}
 use Rattle.exact.specs.Int.{neg}
 use Rattle.exact.specs.Crossed.{countFrom}
-use Rattle.curves.specs.Grid.{Vertex, Facet, Place, placeOk}
+use Rattle.curves.specs.Grid.{Vertex, Place, placeOk}
 use Rattle.paper.specs.Bytes.{byte, word, signedWord, signedDoubleWord, wordBytes}
 use Rattle.paper.specs.Limits.{dimensionOk, coordinateLimit, termLimit, coefficientLimit, degreeLimit}
 

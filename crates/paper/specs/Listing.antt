@@ -1,7 +1,7 @@
 -- The listing: document 01, section "The listing", as the bytes that the program prints. Text is a list of ASCII codes;
 -- numbers are separated by single blanks and every line ends with a newline.
 use Prim.Native.Nat.{ℕ, suc, zero, _+_, _/_, _%_}
-use mathlib.Core.Bool.{Bool, true, false, cond}
+use mathlib.Core.Bool.{cond}
 use mathlib.Core.List.{List, [], _∷_, _++_, map}
 use lib.IntN.{ℤ, pos, negsuc}
 use lib.ListN.{length}

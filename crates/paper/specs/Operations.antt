@@ -1,16 +1,15 @@
 -- The operations: document 01, section "Operations and what they turn down", in its order. Each is a total function from
 -- lists of bytes to an answer. A refusal is a number above 0, and 0 is none; the tests stand in the order written.
-use Prim.Native.Nat.{ℕ, suc, zero, _+_, _*_, _-_, _/_, _%_}
-use mathlib.Core.Bool.{Bool, true, false, not, cond, _&&_}
-use mathlib.Core.List.{List, [], _∷_, _++_, map}
-use lib.IntN.{ℤ, pos, negsuc}
-use lib.ListN.{length, take, drop}
-use lib.Dec.{leb, ltb, eqb}
-use Rattle.curves.specs.Grid.{Vertex, Facet, Place, facetVertices, placeOk, sameFacet}
-use Rattle.curves.specs.Walk.{Next, stop, go, Verdict, loop, stopped, full, Trace, trace}
-use Rattle.curves.specs.Step.{Stop, edge, limit, Field, every, crossedFacet, step}
-use Rattle.paper.specs.Bytes.{byte}
-use Rattle.paper.specs.Job.{dimension, body, entryOffset, termCount, decodePlace, encodePlace, refuseIf, openRefusal}
+use Prim.Native.Nat.{ℕ, suc, zero, _+_, _*_, _/_}
+use mathlib.Core.Bool.{Bool, not, cond, _&&_}
+use mathlib.Core.List.{List, [], _∷_, _++_}
+use lib.IntN.{ℤ}
+use lib.ListN.{length, drop}
+use lib.Dec.{ltb, eqb}
+use Rattle.curves.specs.Grid.{Facet, Place, facetVertices, placeOk, sameFacet}
+use Rattle.curves.specs.Walk.{Next, Verdict, Trace, trace}
+use Rattle.curves.specs.Step.{Stop, every, crossedFacet, step}
+use Rattle.paper.specs.Job.{dimension, body, termCount, decodePlace, encodePlace, refuseIf, openRefusal}
 use Rattle.paper.specs.Values.{fieldOf, pointOf}
 
 -- a refusal's number, or an answer

@@ -1,15 +1,14 @@
 -- Values at vertices, readable values and points: document 01, section "Crossed".
-use Prim.Native.Nat.{ℕ, suc, zero, _+_, _*_, _-_, _/_, _%_, _^_}
-use mathlib.Core.Bool.{Bool, true, false, cond, _&&_}
+use Prim.Native.Nat.{ℕ, suc, zero, _+_, _-_, _/_, _%_, _^_}
+use mathlib.Core.Bool.{Bool, true, cond, _&&_}
 use mathlib.Core.List.{List, [], _∷_, map}
 use lib.IntN.{ℤ, pos, negsuc, natAbs}
-use lib.ListN.{getD, length}
 use lib.Dec.{leb, eqb}
-use lib.Signed.{leZ, ltZ}
+use lib.Signed.{leZ}
 use Rattle.exact.specs.Int.{_⊕_, _⊗_, neg, power, 0ℤ, 1ℤ}
 use Rattle.exact.specs.Det.{Column, determinant}
 use Rattle.exact.specs.Crossed.{countFrom, coefficient}
-use Rattle.curves.specs.Grid.{Vertex, Facet, Place, facetVertices}
+use Rattle.curves.specs.Grid.{Vertex, Facet, facetVertices}
 use Rattle.curves.specs.Step.{Field, columns, every}
 use Rattle.paper.specs.Limits.{readableLimit, stepsPerUnit}
 use Rattle.paper.specs.Job.{dimension, body, lowEnd, highEnd, coefficientOf, exponentOf, termCount}

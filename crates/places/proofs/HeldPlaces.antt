@@ -6,12 +6,11 @@ use native.Mathlib.Nat.{pow-le-pow-right}
 use mathlib.Core.Path.{_≡_, refl, sym, ap, subst, _∙_}
 use mathlib.Core.Bool.{Bool, true, not, _&&_}
 use mathlib.Core.List.{List, [], _∷_}
-use lib.IntN.{ℤ, natAbs}
-use lib.ListN.{length, take}
-use lib.Dec.{leb, ltb, eqb}
+use lib.IntN.{natAbs}
+use lib.ListN.{take}
+use lib.Dec.{ltb, eqb}
 use borrow.Author.Tests.{leb-true, lt-ltb, ltb-true}
 use Rattle.exact.specs.Int.{0ℤ}
-use Rattle.exact.specs.Size.{Size}
 use Rattle.exact.proofs.SizeLaws.{size-weaken}
 use Rattle.curves.specs.Grid.{Place, chain, holds, placeOk}
 use Rattle.curves.specs.Step.{every}
@@ -26,7 +25,7 @@ use Rattle.paper.specs.Answers.{padded, placedAs, paddedPlace}
 use Rattle.paper.specs.Short.{limited}
 use Rattle.paper.specs.declared.Placed.{Placed}
 use Rattle.paper.proofs.Tests.{and-left, and-right, and-true, DimensionRange, dimension-range}
-use Rattle.paper.proofs.Opens.{Opens, opens}
+use Rattle.paper.proofs.Opens.{opens}
 use Rattle.paper.proofs.StartTracable.{tracable-limited}
 use Rattle.values.specs.Ask.{JobOf}
 use Rattle.simplices.specs.Corners.{Sizes}

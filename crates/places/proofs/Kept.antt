@@ -1,13 +1,12 @@
 -- Numbers that go through 64 bits and come out as they were: the coordinates of a held place, of a corner, and their words.
-use Prim.Native.Nat.{ℕ, suc, zero, _+_, _*_, _-_, _%_, _/_, _≤_, _<_}
+use Prim.Native.Nat.{ℕ, _+_, _-_, _%_, _/_, _≤_}
 use native.Mathlib.Numerals.{add-one}
 use native.Mathlib.Omega.{arith}
-use mathlib.Core.Path.{_≡_, refl, sym, ap, subst, _∙_}
-use mathlib.Core.Bool.{Bool, true, false, true≢false}
+use mathlib.Core.Path.{_≡_, sym, ap, subst, _∙_}
+use mathlib.Core.Bool.{true, false, true≢false}
 use mathlib.Core.List.{List}
 use lib.IntN.{ℤ, pos, negsuc, natAbs}
 use lib.Signed.{ltZ}
-use lib.Dec.{lit≤}
 use lib.ListN.{set}
 use lib.Seq.{sets}
 use mir.Syntax.{w64}
@@ -21,7 +20,6 @@ use Rattle.paper.specs.Cells.{lowVertex}
 use Rattle.paper.specs.Job.{encodePlace}
 use Rattle.paper.specs.declared.Placed.{Placed}
 use Rattle.bits.specs.Read.{Reads}
-use Rattle.vertices.specs.declared.Vertex.{Vertex}
 use Rattle.vertices.specs.Vertices.{VertexSize}
 use Rattle.orders.specs.Table.{orderAt}
 use Rattle.simplices.specs.Corners.{Sizes, CornerIs, cornerUnder}

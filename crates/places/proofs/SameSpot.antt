@@ -3,14 +3,13 @@ use Prim.Native.Nat.{ℕ, _-_, _<_}
 use native.Mathlib.Omega.{arith}
 use mathlib.Core.Path.{_≡_, refl, sym, ap, subst, _∙_}
 use mathlib.Core.Bool.{Bool, true, false}
-use mathlib.Core.List.{List, [], _∷_}
-use lib.IntN.{ℤ}
+use mathlib.Core.List.{[], _∷_}
 use lib.ListN.{getD, take}
 use lib.Seq.{getD-take}
 use lib.Dec.{eqb}
 use borrow.Author.Tests.{eqb-true, eqb-false}
 use Rattle.exact.specs.Int.{0ℤ}
-use Rattle.curves.specs.Grid.{Facet, Place, sameFacet}
+use Rattle.curves.specs.Grid.{Facet}
 use Rattle.curves.proofs.SameFacet.{sameFacet-sound, sameFacet-complete}
 use Rattle.paper.specs.Cells.{lowVertex, maskList}
 use Rattle.paper.specs.Operations.{sameSpot}

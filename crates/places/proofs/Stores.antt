@@ -1,11 +1,10 @@
 -- A place's bytes, stored one after another, are the bytes that the definition gives it, from the place's offset on.
-use Prim.Native.Nat.{ℕ, suc, zero, _+_, _-_, _%_, _/_, _≤_, _<_}
+use Prim.Native.Nat.{ℕ, suc, _+_, _-_}
 use native.Mathlib.Nat.{add-zero}
 use native.Mathlib.Numerals.{towards-suc}
 use native.Mathlib.Omega.{arith}
-use mathlib.Core.Path.{_≡_, refl, sym, ap, _∙_}
+use mathlib.Core.Path.{_≡_, sym, ap, _∙_}
 use mathlib.Core.List.{List, [], _∷_, _++_, append-nil, append-assoc}
-use lib.IntN.{ℤ}
 use lib.ListN.{length, set}
 use lib.Seq.{sets}
 use Rattle.curves.specs.Grid.{Place}

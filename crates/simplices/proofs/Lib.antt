@@ -6,4 +6,3 @@ pub mod Moves
 pub mod Onward
 pub mod Columns
 pub mod ExitSearch
-pub mod ExitLow

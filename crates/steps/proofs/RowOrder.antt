@@ -1,14 +1,13 @@
 -- The simplex with a corner and a row's order, when its axes are read from the table one by one.
-use Prim.Native.Nat.{ℕ, suc, zero, min, _+_, _≤_, _<_}
+use Prim.Native.Nat.{ℕ, suc, zero, _≤_, _<_}
 use native.Mathlib.Omega.{arith}
-use mathlib.Core.Path.{_≡_, refl, sym, ap, subst, _∙_}
+use mathlib.Core.Path.{_≡_, sym, subst, _∙_}
 use mathlib.Core.List.{List, [], _∷_}
 use lib.IntN.{ℤ}
 use lib.ListN.{length, getD, take, length-take}
 use lib.Seq.{ext-getD, getD-take}
 use Rattle.curves.specs.Grid.{vertices}
 use Rattle.paper.specs.Cells.{lowVertex}
-use Rattle.vertices.specs.declared.Vertex.{Vertex}
 use Rattle.vertices.specs.Vertices.{vertexAs}
 use Rattle.values.specs.Columns.{orderAs}
 use Rattle.values.specs.Post.{SimplexFound}

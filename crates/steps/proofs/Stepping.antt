@@ -1,6 +1,6 @@
 -- The step from a held place, through the row of the table and the corner that were found: edge, limit, or the place that the
 -- exit leads to, which is held too.
-use Prim.Native.Nat.{ℕ, suc, _+_, _≤_, _<_}
+use Prim.Native.Nat.{ℕ, _≤_, _<_}
 use native.Mathlib.Numerals.{add-one}
 use native.Mathlib.Omega.{arith}
 use mathlib.Core.Path.{_≡_, refl, sym, ap, subst, _∙_}
@@ -8,10 +8,9 @@ use mathlib.Core.Bool.{Bool, true, false, cond}
 use mathlib.Core.List.{List, map}
 use lib.IntN.{ℤ}
 use Rattle.exact.specs.Crossed.{countFrom, exit}
-use Rattle.exact.proofs.SizeLaws.{size-weaken}
-use Rattle.curves.specs.Grid.{Vertex, Place, Incidence, vertices, incidence, placeAt, placeOf, turn, placeOk}
-use Rattle.curves.specs.Walk.{Next, stop, go}
-use Rattle.curves.specs.Step.{Stop, edge, limit, Field, every, columns, crossedFacet, onward, stepThrough, step}
+use Rattle.curves.specs.Grid.{Vertex, Place, Incidence, vertices, incidence, placeAt, placeOf, turn}
+use Rattle.curves.specs.Walk.{stop, go}
+use Rattle.curves.specs.Step.{edge, limit, every, columns, crossedFacet, onward, stepThrough, step}
 use Rattle.curves.proofs.IncidenceOf.{Valid, incidence-ok, place-incidence}
 use Rattle.curves.proofs.GridStep.{accepted, columnsOf, crossed-columns}
 use Rattle.curves.proofs.GridWalk.{other-only, step-tracable}
@@ -26,7 +25,7 @@ use Rattle.paper.specs.declared.Placed.{Placed}
 use Rattle.values.specs.Post.{stopNumber, SimplexFound}
 use Rattle.orders.specs.Table.{InTable, orderAt}
 use Rattle.simplices.specs.Search.{Found}
-use Rattle.simplices.specs.Corners.{Sizes, CornerIs, cornerUnder}
+use Rattle.simplices.specs.Corners.{CornerIs, cornerUnder}
 use Rattle.simplices.specs.Exits.{simplexColumns, SimplexCells}
 use Rattle.judge.specs.Located.{placedFacet}
 use Rattle.places.specs.Held.{heldPlace, Held}

@@ -3,8 +3,8 @@
 ghost use mathlib.Core.Path.{_≡_};
 ghost use mathlib.Core.Bool.{true};
 ghost use mathlib.Core.List.{[], _∷_};
-ghost use Prim.Native.Nat.{_+_, _-_, _≤_, _<_};
-ghost use lib.IntN.{ℤ, pos};
+ghost use Prim.Native.Nat.{_+_, _-_, _≤_};
+ghost use lib.IntN.{pos};
 ghost use lib.ListN.{length, take};
 ghost use Rattle.paper.specs.Limits.{dimensionOk};
 ghost use Rattle.paper.specs.Answers.{verdictAs};

@@ -1,16 +1,16 @@
 -- A trace under way: the places written so far, followed by the trace from the place that is held, are the whole trace, and the
 -- buffer has the bytes of those written. Each turn keeps this, and each end of the walk gives the whole trace.
-use Prim.Native.Nat.{ℕ, suc, zero, _+_, _*_, _-_, _/_, _≤_, _<_}
+use Prim.Native.Nat.{ℕ, suc, _+_, _*_, _-_, _/_, _≤_, _<_}
 use native.Mathlib.Nat.{mul-zero, mul-suc, mul-comm, mul-le-mul-left, mul-div-le, le-trans, zero-add, div-le-self}
 use native.Mathlib.Numerals.{add-one}
 use native.Mathlib.Omega.{arith}
 use mathlib.Core.Path.{_≡_, refl, sym, ap, subst, _∙_}
-use mathlib.Core.Bool.{Bool, true, false}
+use mathlib.Core.Bool.{true, false}
 use mathlib.Core.List.{List, [], _∷_, _++_, append-nil, append-assoc}
 use lib.ListN.{length, drop, length-append}
 use lib.Seq.{sets, length-sets, sets-eq}
 use Rattle.curves.specs.Grid.{Place}
-use Rattle.curves.specs.Walk.{Trace, ended, written, afterTest, afterStep, traceFrom, trace, stop, go, loop, stopped, full}
+use Rattle.curves.specs.Walk.{Trace, afterTest, afterStep, traceFrom, trace, stop, full}
 use Rattle.curves.specs.Step.{Stop, edge, limit}
 use Rattle.curves.proofs.GridStep.{accepted}
 use Rattle.paper.specs.Job.{encodePlace}
@@ -25,7 +25,6 @@ use Rattle.tracer.specs.declared.walks.Visited as Code
 use Rattle.places.specs.Held.{heldPlace, Held}
 use Rattle.steps.specs.Ahead.{Leads}
 use Rattle.tracer.specs.Visited.{GoesOn, VisitedIs, Visits, traceOver, Walks}
-use Rattle.places.proofs.HeldPlaces.{job-range}
 use Rattle.places.proofs.Stores.{sets-append, encodePlaces-snoc}
 
 -- ---- one turn

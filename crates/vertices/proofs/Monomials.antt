@@ -1,7 +1,6 @@
 -- The terms of a polynomial that has passed Open's tests, at a vertex of coordinates up to 256 in size: a term's bytes lie inside the
 -- body, its powers stay under 2 ^ 32 together, and the term under 2 ^ 52.
 use mathlib.Core.Path.{_≡_}
-use mathlib.Core.Bool.{true}
 use mathlib.Core.List.{List, [], _∷_}
 use Prim.Native.Nat.{ℕ, _+_, _*_, _^_, _≤_, _<_}
 use native.Mathlib.Omega.{arith}
@@ -14,7 +13,7 @@ use mir.Val.{SFits, toZ, ofZ}
 use Rattle.exact.specs.Int.{power}
 use Rattle.exact.specs.Size.{Size}
 use Rattle.exact.proofs.Ring.{mul-one}
-use Rattle.paper.specs.Limits.{dimensionOk, coefficientLimit, degreeLimit}
+use Rattle.paper.specs.Limits.{coefficientLimit, degreeLimit}
 use Rattle.paper.specs.Job.{termCount, exponentOf, coefficientOf, degree}
 use Rattle.paper.specs.Values.{monomial, termValue}
 use Rattle.paper.specs.Cells.{lowVertex}

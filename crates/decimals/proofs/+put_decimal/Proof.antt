@@ -1,13 +1,12 @@
 -- `put_decimal` meets its contract, as the one member of its cycle of calls. The measure is the number: a tenth of it is less. What is
 -- written is the text of the tenth and the last digit.
-use mathlib.Core.Path.{_≡_, sym, ap, ap₂, _∙_}
-use mathlib.Core.List.{List, [], _∷_, _++_}
+use mathlib.Core.Path.{sym, ap, _∙_}
+use mathlib.Core.List.{[], _∷_, _++_}
 use native.Mathlib.Omega.{arith}
-use lib.ListN.{length}
 use Rattle.paper.specs.Listing.{decimal}
 use Rattle.paper.proofs.Decimal.{decimal-digit, decimal-digits, decimal-short, decimal-tenth-short}
 use Rattle.decimals.proofs.WrittenParts.{writes-then, writes-within}
-use Prim.Native.Nat.{ℕ, _+_, _/_, _%_, _≤_, _<_}
+use Prim.Native.Nat.{ℕ, _+_, _/_, _<_}
 use borrow.Fn.Kinds.{In}
 use borrow.Fn.PlainCycle.{Measures, is, falls, and}
 use Rattle.decimals.proofs.put_decimal.Reads as put-decimal

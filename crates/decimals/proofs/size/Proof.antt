@@ -1,10 +1,6 @@
 -- `size` meets its contract: − 1 less a number under 0 and 1 more, and any other number itself, is its size.
-use mathlib.Core.Path.{_≡_, ap, subst, sym, _∙_}
-use Prim.Native.Nat.{_+_}
-use native.Mathlib.Omega.{arith}
 use borrow.Author.Needs.{needs}
-use lib.IntN.{natAbs}
-use Rattle.decimals.proofs.SignedSize.{bits-are, complement, complement-fits, complement-casts, size-under, size-casts, size-room}
+use Rattle.decimals.proofs.SignedSize.{complement-fits, complement-casts, size-under, size-casts, size-room}
 use Rattle.decimals.proofs.size.Statement.{statement}
 use Rattle.decimals.proofs.size.Tie as tie
 

@@ -1,5 +1,4 @@
 -- `put_place` meets its contract: the parts of a place's line, one behind the other.
-use mathlib.Core.Path.{_≡_, _∙_}
 use native.Mathlib.Omega.{arith}
 use Rattle.decimals.proofs.WrittenParts.{writes-then, writes-as}
 use Rattle.decimals.proofs.SignedSize.{bits-are}

@@ -1,5 +1,5 @@
 -- `put_verdict` meets its contract: each verdict's word.
-use mathlib.Core.Path.{_≡_, sym, ap}
+use mathlib.Core.Path.{sym, ap}
 use native.Mathlib.Omega.{arith}
 use Rattle.paper.specs.Listing.{verdictWord}
 use Rattle.paper.specs.Answers.{verdictAs}

@@ -1,9 +1,7 @@
 -- `put_places` meets its contract, as the one member of its cycle of calls. The measure is the count: the rest has one place fewer.
-use mathlib.Core.Path.{_≡_, sym, ap, _∙_}
+use mathlib.Core.Path.{sym, _∙_}
 use native.Mathlib.Omega.{arith}
-use lib.ListN.{length, take, drop}
 use lib.Seq.{length-take-le}
-use denote.Ref.{now}
 use Rattle.paper.proofs.Tests.{dimension-range}
 use Rattle.decimals.proofs.WrittenParts.{writes-then, writes-as}
 use Rattle.listing.proofs.PlacesShown.{first-asked, no-lines}

@@ -1,7 +1,6 @@
 -- `trace_listed` meets its contract: the part lent has space for 4,096 places, and the places read back from it are the trace's.
-use mathlib.Core.Path.{_≡_, sym}
+use mathlib.Core.Path.{sym}
 use native.Mathlib.Omega.{arith}
-use lib.ListN.{length, take}
 use lib.Seq.{length-take-le}
 use denote.Ref.{now}
 use Rattle.paper.specs.Listing.{listingSpace}
