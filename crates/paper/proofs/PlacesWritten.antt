@@ -3,11 +3,11 @@
 use Prim.Native.Nat.{ℕ, suc, _+_, _*_, _/_, _^_, _≤_}
 use native.Mathlib.Omega.{arith}
 use native.Mathlib.Nat.{pow-le-pow-right, mul-zero, mul-suc, mul-le-mul-left, mul-div-le, le-trans}
-use mathlib.Core.Path.{_≡_, refl, sym, subst}
+use mathlib.Core.Path.{_≡_, refl, sym, ap, subst}
 use mathlib.Core.Bool.{true}
 use mathlib.Core.Logic.{⊎-elim}
 use mathlib.Core.List.{List, [], _∷_, _++_, append-assoc, List·Memᴰ·head, List·Memᴰ·tail, List·Memᴰ·not-nil}
-use lib.ListN.{length, length-append, length-drop}
+use lib.ListN.{length, drop, length-append, length-drop}
 use lib.Seq.{take-at, drop-at}
 use Rattle.curves.specs.Grid.{Place, placeOk, under}
 use Rattle.curves.specs.Curve.{_∈_}
@@ -28,7 +28,7 @@ use Rattle.paper.specs.Demand3.{readPlaces}
 use Rattle.paper.proofs.Opens.{Opens, opens-range}
 use Rattle.paper.proofs.Encode.{encode-length, encode-bytes, decode-encode}
 use Rattle.paper.proofs.StartTracable.{tracable-limited, tracable-short, trace-opens, start-tracable}
-use Rattle.paper.proofs.Refusals.{answered-inv}
+use Rattle.paper.proofs.Refusals.{answered-inv, unless-refused}
 
 -- what a place that Trace writes is as bytes
 pub record Writable (n : ℕ) (p : Place) : Type 0 where
@@ -130,3 +130,15 @@ buffer-length s buffer = go (traced s (spaceOf s buffer)) refl
     go (answered t) e =
         let fits : length (encodePlaces (t .places)) ≤ length buffer = traced-fits s buffer t e in
         simp (length-append, length-drop) (omega arith)
+
+-- a job that is refused leaves every byte of the buffer as it was
+pub refusal-keeps : (s buffer : List ℕ) → (traceRefusal s ≡ 0 → ⊥) → bufferAfter (traced s (spaceOf s buffer)) buffer ≡ buffer
+unfolding traced bufferAfter
+refusal-keeps s buffer h =
+    ap (λ a. bufferAfter a buffer) (unless-refused (traceRefusal s) (trace (stepIn s) sameSpot (startOf s) (spaceOf s buffer)) h)
+
+-- bytes past the last place written keep their values
+pub rest-keeps : (t : Trace Place Stop) (buffer : List ℕ)
+    → drop (length (encodePlaces (t .places))) (bufferAfter (answered t) buffer) ≡ drop (length (encodePlaces (t .places))) buffer
+unfolding bufferAfter
+rest-keeps t buffer = drop-at (encodePlaces (t .places)) (drop (length (encodePlaces (t .places))) buffer) _ refl
