@@ -11,7 +11,7 @@ use Rattle.curves.specs.Grid.{Vertex, Place, facetVertices, plus, facetO
 use Rattle.curves.specs.Walk.{loop, stopped, full}
 use Rattle.curves.specs.Curve.{_∈_}
 use Rattle.curves.specs.Step.{Stop, Field, every, readableAll}
-use Rattle.curves.specs.Joined.{Tracable, Closes, HasFacets}
+use Rattle.curves.specs.Joined.{Traceable, Closes, HasFacets}
 use Rattle.curves.specs.GridDemand.{traceOf, GridDemand3}
 use Rattle.curves.proofs.OrderTests.{and-left}
 use Rattle.curves.proofs.Vertices.{facet-low-length}
@@ -24,15 +24,15 @@ use Rattle.curves.proofs.WalkDemand.{demand3}
 use Rattle.curves.proofs.GridStep.{accepted}
 use Rattle.curves.proofs.GridWalk.{grid-walk}
 
-pub grid-demand3 : (n : ℕ) (φ : Field) → 0 < n → (s : Place) → Tracable n φ s → (a b : ℕ) → GridDemand3 n φ s a b
+pub grid-demand3 : (n : ℕ) (φ : Field) → 0 < n → (s : Place) → Traceable n φ s → (a b : ℕ) → GridDemand3 n φ s a b
 grid-demand3 n φ pos s o = demand3 (grid-walk n φ pos) o
 
 -- ---- the number of facets
 
 -- the lowest vertex of a place that Step does not refuse lies in the box
-pub tracable-low : (n : ℕ) (φ : Field) (p : Place) → Tracable n φ p → φ .inBox (p .facet .low) ≡ true
+pub traceable-low : (n : ℕ) (φ : Field) (p : Place) → Traceable n φ p → φ .inBox (p .facet .low) ≡ true
 unfolding readableAll facetVertices every
-tracable-low n φ p o =
+traceable-low n φ p o =
     let vs : List Vertex = facetVertices (p .facet) in
     and-left (φ .inBox (p .facet .low)) (every (φ .inBox) (map (plus (p .facet .low)) (p .facet .masks)))
     (and-left (every (φ .inBox) vs) (every (φ .readable) vs) (accepted n φ p o .readable))
@@ -41,18 +41,18 @@ tracable-low n φ p o =
 pub curve-finite :
     (n : ℕ) (φ : Field) → 0 < n →
     (low high : List ℤ) → ((v : Vertex) → length v ≡ n → φ .inBox v ≡ true → within low high v ≡ true) →
-    (s : Place) → Tracable n φ s → (k : ℕ) × HasFacets n φ (s .facet) k
+    (s : Place) → Traceable n φ s → (k : ℕ) × HasFacets n φ (s .facet) k
 unfolding placeOk
 curve-finite n φ pos low high inside s o = facets-exist (grid-walk n φ pos) o (facetsIn n low high) listed
   where
-    listed : (p : Place) → Tracable n φ p → p .facet ∈ facetsIn n low high
+    listed : (p : Place) → Traceable n φ p → p .facet ∈ facetsIn n low high
     listed p q =
         let form : facetOk n (p .facet) ≡ true = and-left (facetOk n (p .facet)) (ltb (p .side) 2) (accepted n φ p q .form) in
-        facetsIn-listed n low high (p .facet) form (inside (p .facet .low) (facet-low-length n (p .facet) form) (tracable-low n φ p q))
+        facetsIn-listed n low high (p .facet) form (inside (p .facet .low) (facet-low-length n (p .facet) form) (traceable-low n φ p q))
 
 -- ---- the verdict tells whether the curve closes
 
-module _ (n : ℕ) (φ : Field) (pos : 0 < n) (s : Place) (o : Tracable n φ s) (space : ℕ) where
+module _ (n : ℕ) (φ : Field) (pos : 0 < n) (s : Place) (o : Traceable n φ s) (space : ℕ) where
   pub loop-closed : traceOf n φ s space .verdict ≡ loop → Closes n φ (s .facet)
   loop-closed h = loop-closes (grid-walk n φ pos) o (not-full-traced (grid-walk n φ pos) o space (loop-not-full h)) h
 

@@ -17,15 +17,15 @@ use Rattle.curves.specs.Grid.{Vertex, Place, up, down, plus, axesFrom, a
 use Rattle.curves.specs.Grid.{sameVertex, sameMasks, sameFacet, turn, steps, lastMask, flat, missed, oriented, added, bend, downs, flatSide, bentSide}
 use Rattle.curves.specs.Grid.{incidence, masksFrom, sideOf, placeAt, placeOf}
 use Rattle.curves.specs.Walk.{Verdict, loop, stopped, afterTest, afterStep, traceFrom, trace}
-use Rattle.curves.specs.Step.{Stop, edge, limit, every, Field, column, columns, crossedFacet, readableAll, tracable, onward, stepThrough, step}
-use Rattle.curves.specs.Joined.{Tracable, Closes, HasFacets}
+use Rattle.curves.specs.Step.{Stop, edge, limit, every, Field, column, columns, crossedFacet, readableAll, traceable, onward, stepThrough, step}
+use Rattle.curves.specs.Joined.{Traceable, Closes, HasFacets}
 use Rattle.curves.specs.GridDemand.{facetOf, traceOf, GridDemand3}
 use Rattle.curves.proofs.Finite.{within}
 use Rattle.curves.proofs.WalkTrace.{loop-not-full, stopped-not-full}
 use Rattle.curves.proofs.WalkJoined.{not-full-traced}
 use Rattle.curves.proofs.WalkCount.{loop-facets}
 use Rattle.curves.proofs.WalkOpen.{stopped-facets}
-use Rattle.curves.proofs.GridStep.{turn-tracable}
+use Rattle.curves.proofs.GridStep.{turn-traceable}
 use Rattle.curves.proofs.GridWalk.{grid-walk}
 use Rattle.curves.proofs.Demand.{grid-demand3, curve-finite, loop-closed, stopped-open}
 
@@ -41,7 +41,7 @@ pub record Outline : Type 0 where
 
 unfoldable pub outline : ℕ → Field → Place → ℕ → Outline
 outline n φ s space = record {
-  taken = tracable n φ s;
+  taken = traceable n φ s;
   verdict = traceOf n φ s space .verdict;
   count = length (traceOf n φ s space .places);
   turned-verdict = traceOf n φ (turn s) space .verdict;
@@ -117,13 +117,13 @@ record Outlines : Type 0 where
   ring : outline 3 ringField ringStart 1000 ≡ closed 10
 
 outlines : Outlines
-unfolding outline planeStart circleField lineField crossField crossStart ringField ringStart _⊕_ _⊖_ _⊗_ neg within sign orElse lexSign sameSign laplace ifNone det rowsFrom determinant countFrom unitColumn coefficient coefficients allHaveSign crossed remove otherCrossed exit up down plus axesFrom axes holds vertices facetVertices chain facetOk placeOk sameVertex sameMasks sameFacet turn steps lastMask flat missed oriented added bend downs flatSide bentSide incidence masksFrom sideOf placeAt placeOf afterTest afterStep traceFrom trace every column columns crossedFacet readableAll tracable onward stepThrough step onesIn ones
+unfolding outline planeStart circleField lineField crossField crossStart ringField ringStart _⊕_ _⊖_ _⊗_ neg within sign orElse lexSign sameSign laplace ifNone det rowsFrom determinant countFrom unitColumn coefficient coefficients allHaveSign crossed remove otherCrossed exit up down plus axesFrom axes holds vertices facetVertices chain facetOk placeOk sameVertex sameMasks sameFacet turn steps lastMask flat missed oriented added bend downs flatSide bentSide incidence masksFrom sideOf placeAt placeOf afterTest afterStep traceFrom trace every column columns crossedFacet readableAll traceable onward stepThrough step onesIn ones
 outlines = record { circle = refl; line = refl; cross = refl; ring = refl }
 
 -- ---- what follows of a closed outline
 
 pub record ClosedCurve (n : ℕ) (φ : Field) (s : Place) (k : ℕ) : Type 0 where
-  pub start : Tracable n φ s
+  pub start : Traceable n φ s
   pub closes : Closes n φ (s .facet)
   pub facets : HasFacets n φ (s .facet) k
   pub demand : (a b : ℕ) → GridDemand3 n φ s a b
@@ -131,7 +131,7 @@ pub record ClosedCurve (n : ℕ) (φ : Field) (s : Place) (k : ℕ) : Type 0 whe
 outline-closed : (n : ℕ) (φ : Field) (s : Place) (space k : ℕ) → 0 < n → outline n φ s space ≡ closed k → ClosedCurve n φ s k
 unfolding outline
 outline-closed n φ s space k large e =
-    let o : Tracable n φ s = ap (λ (t : Outline). t .taken) e in
+    let o : Traceable n φ s = ap (λ (t : Outline). t .taken) e in
     let l : traceOf n φ s space .verdict ≡ loop = ap (λ (t : Outline). t .verdict) e in
     record {
       start = o;
@@ -145,7 +145,7 @@ outline-closed n φ s space k large e =
 -- ---- what follows of a stopped outline
 
 pub record OpenCurve (n : ℕ) (φ : Field) (s : Place) (k : ℕ) : Type 0 where
-  pub start : Tracable n φ s
+  pub start : Traceable n φ s
   pub open-ended : ¬ Closes n φ (s .facet)
   pub facets : HasFacets n φ (s .facet) k
   pub demand : (a b : ℕ) → GridDemand3 n φ s a b
@@ -155,12 +155,12 @@ outline-open :
     outline n φ s space ≡ stops w k u l → k + l ≡ m + 1 → OpenCurve n φ s m
 unfolding outline
 outline-open n φ s space w k u l m large e total =
-    let o : Tracable n φ s = ap (λ (t : Outline). t .taken) e in
+    let o : Traceable n φ s = ap (λ (t : Outline). t .taken) e in
     let h : traceOf n φ s space .verdict ≡ stopped w = ap (λ (t : Outline). t .verdict) e in
     let i : traceOf n φ (turn s) space .verdict ≡ stopped u = ap (λ (t : Outline). t .turned-verdict) e in
     let c = stopped-facets (grid-walk n φ large) o
     (not-full-traced (grid-walk n φ large) o space (stopped-not-full h)) h
-    (not-full-traced (grid-walk n φ large) (turn-tracable n φ s o) space (stopped-not-full i)) (stopped-not-full i) in
+    (not-full-traced (grid-walk n φ large) (turn-traceable n φ s o) space (stopped-not-full i)) (stopped-not-full i) in
     let same : c .0 ≡ m = omega (arith, c .2, ap (λ (t : Outline). t .count) e, ap (λ (t : Outline). t .turned-count) e) in
     record {
       start = o;

@@ -13,8 +13,8 @@ use Rattle.exact.specs.Simplex as Columns
 use Rattle.exact.proofs.Simplex.{simplex-map, remove-map}
 use Rattle.curves.specs.Grid.{Vertex, Place, Incidence, facetVertices, vertices, facetOk, placeOk, turn, incidence, placeOf}
 use Rattle.curves.specs.Walk.{stop, go}
-use Rattle.curves.specs.Step.{edge, limit, every, Field, column, columns, crossedFacet, readableAll, tracable, onward, stepThrough, step}
-use Rattle.curves.specs.Joined.{Tracable}
+use Rattle.curves.specs.Step.{edge, limit, every, Field, column, columns, crossedFacet, readableAll, traceable, onward, stepThrough, step}
+use Rattle.curves.specs.Joined.{Traceable}
 use Rattle.curves.proofs.OrderTests.{and-left, and-right, both, order-length}
 use Rattle.curves.proofs.Vertices.{length-vertices, facet-vertices}
 use Rattle.curves.proofs.IncidenceOf.{place-formed, Valid, incidence-of-place, place-of-ok}
@@ -40,8 +40,8 @@ pub record Accepted (n : ℕ) (φ : Field) (p : Place) : Type 0 where
   pub readable : readableAll φ (facetVertices (p .facet)) ≡ true
   pub crosses : crossedFacet n φ (p .facet) ≡ true
 
-pub accepted : (n : ℕ) (φ : Field) (p : Place) → Tracable n φ p → Accepted n φ p
-unfolding tracable
+pub accepted : (n : ℕ) (φ : Field) (p : Place) → Traceable n φ p → Accepted n φ p
+unfolding traceable
 accepted n φ p o =
     let a : Bool = placeOk n p in
     let b : Bool = readableAll φ (facetVertices (p .facet)) in
@@ -49,23 +49,23 @@ accepted n φ p o =
     let r : b && c ≡ true = and-right a (b && c) o in
     record { form = and-left a (b && c) o; readable = and-left b c r; crosses = and-right b c r }
 
-pub accepted-tracable : (n : ℕ) (φ : Field) (p : Place) → Accepted n φ p → Tracable n φ p
-unfolding tracable
-accepted-tracable n φ p a = both (a .form) (both (a .readable) (a .crosses))
+pub accepted-traceable : (n : ℕ) (φ : Field) (p : Place) → Accepted n φ p → Traceable n φ p
+unfolding traceable
+accepted-traceable n φ p a = both (a .form) (both (a .readable) (a .crosses))
 
 pub turn-ok : (n : ℕ) (p : Place) → placeOk n p ≡ true → placeOk n (turn p) ≡ true
 unfolding placeOk turn
 turn-ok n p h =
     both (and-left (facetOk n (p .facet)) (ltb (p .side) 2) h) (lt-ltb (1 - p .side) 2 (omega arith))
 
-pub turn-tracable : (n : ℕ) (φ : Field) (p : Place) → Tracable n φ p → Tracable n φ (turn p)
+pub turn-traceable : (n : ℕ) (φ : Field) (p : Place) → Traceable n φ p → Traceable n φ (turn p)
 unfolding turn
-turn-tracable n φ p o =
+turn-traceable n φ p o =
     let a : Accepted n φ p = accepted n φ p o in
-    accepted-tracable n φ (turn p) (record { form = turn-ok n p (a .form); readable = a .readable; crosses = a .crosses })
+    accepted-traceable n φ (turn p) (record { form = turn-ok n p (a .form); readable = a .readable; crosses = a .crosses })
 
-pub tracable-side : (n : ℕ) (φ : Field) (p : Place) → Tracable n φ p → p .side < 2
-tracable-side n φ p o = place-formed n p (accepted n φ p o .form) .side-under
+pub traceable-side : (n : ℕ) (φ : Field) (p : Place) → Traceable n φ p → p .side < 2
+traceable-side n φ p o = place-formed n p (accepted n φ p o .form) .side-under
 
 -- ---- the simplex without one vertex
 
@@ -101,10 +101,10 @@ module _ (n : ℕ) (φ : Field) (t : Incidence) (p : 0 < n) (v : Valid n t) wher
       ∙ sym (remove-map (column φ) (t .out) (vertices (t .corner) (t .order))))
 
   -- a crossed facet of a readable simplex is one that Step does not refuse
-  pub place-tracable : AllReadable φ t → Columns.FacetCrossed n (columnsOf φ t) (t .out) → Tracable n φ (placeOf t)
+  pub place-traceable : AllReadable φ t → Columns.FacetCrossed n (columnsOf φ t) (t .out) → Traceable n φ (placeOf t)
   unfolding placeOf
-  place-tracable r c =
-      accepted-tracable n φ (placeOf t)
+  place-traceable r c =
+      accepted-traceable n φ (placeOf t)
       (record {
         form = place-of-ok n t p v;
         readable =

@@ -9,12 +9,12 @@ use Rattle.exact.proofs.Simplex.{exit-only-other, exit-exit}
 use Rattle.curves.specs.Grid.{Facet, Place, Incidence, turn, placeOf, incidence}
 use Rattle.curves.specs.Walk.{go}
 use Rattle.curves.specs.Step.{Field, crossedFacet, step}
-use Rattle.curves.specs.Joined.{IsFacetOf, Shares, Tracable}
+use Rattle.curves.specs.Joined.{IsFacetOf, Shares, Traceable}
 use Rattle.curves.specs.GridDemand.{facetOf, WalksOn}
 use Rattle.curves.proofs.SameFacet.{sameFacet-sound, sameFacet-apart, turn-turn, turn-moves, turn-facet, same-facet-places}
 use Rattle.curves.proofs.IncidenceOf.{Valid, incidence-ok, place-incidence}
 use Rattle.curves.proofs.IncidenceSides.{facet-out}
-use Rattle.curves.proofs.GridStep.{accepted, turn-tracable, tracable-side, columnsOf, AllReadable, without, without-valid, columns-simplex, crossed-columns, place-tracable, exitOf, step-goes, goes-step, step-place}
+use Rattle.curves.proofs.GridStep.{accepted, turn-traceable, traceable-side, columnsOf, AllReadable, without, without-valid, columns-simplex, crossed-columns, place-traceable, exitOf, step-goes, goes-step, step-place}
 
 -- ---- a readable simplex with a crossed facet
 
@@ -29,8 +29,8 @@ module _ (n : ℕ) (φ : Field) (t : Incidence) (p : 0 < n) (v : Valid n t) (c :
   pub across-valid : Valid n across
   across-valid = without-valid n φ t p v (exitOf n φ t) (other-only .low)
 
-  pub across-tracable : AllReadable φ t → Tracable n φ (placeOf across)
-  across-tracable r = place-tracable n φ across p across-valid r (other-only .crosses)
+  pub across-traceable : AllReadable φ t → Traceable n φ (placeOf across)
+  across-traceable r = place-traceable n φ across p across-valid r (other-only .crosses)
 
   -- the way back through the simplex
   pub across-back : without across (exitOf n φ across) ≡ t
@@ -38,7 +38,7 @@ module _ (n : ℕ) (φ : Field) (t : Incidence) (p : 0 < n) (v : Valid n t) (c :
 
 -- ---- a step
 
-module _ (n : ℕ) (φ : Field) (pos : 0 < n) (p : Place) (o : Tracable n φ p) where
+module _ (n : ℕ) (φ : Field) (pos : 0 < n) (p : Place) (o : Traceable n φ p) where
   here : Incidence
   here = incidence n p
 
@@ -64,8 +64,8 @@ module _ (n : ℕ) (φ : Field) (pos : 0 < n) (p : Place) (o : Tracable n φ p) 
     unfolding here
     here-readable = step-goes n φ p y e .readable
 
-    pub step-tracable : Tracable n φ y
-    step-tracable = rw step-target (turn-tracable n φ _ (across-tracable n φ here pos here-valid here-crossed here-readable))
+    pub step-traceable : Traceable n φ y
+    step-traceable = rw step-target (turn-traceable n φ _ (across-traceable n φ here pos here-valid here-crossed here-readable))
 
     step-facet : y .facet ≡ placeOf (across n φ here pos here-valid here-crossed) .facet
     step-facet = ap facetOf step-target ∙ turn-facet _
@@ -82,8 +82,8 @@ module _ (n : ℕ) (φ : Field) (pos : 0 < n) (p : Place) (o : Tracable n φ p) 
     pub step-returns : step n φ (turn y) ≡ go (turn p)
     step-returns =
         let back : Incidence = across n φ here pos here-valid here-crossed in
-        let ok : Tracable n φ (placeOf back) = across-tracable n φ here pos here-valid here-crossed here-readable in
-        ap (step n φ) (ap turn step-target ∙ turn-turn (placeOf back) (tracable-side n φ (placeOf back) ok))
+        let ok : Traceable n φ (placeOf back) = across-traceable n φ here pos here-valid here-crossed here-readable in
+        ap (step n φ) (ap turn step-target ∙ turn-turn (placeOf back) (traceable-side n φ (placeOf back) ok))
         ∙ step-place n φ back pos (across-valid n φ here pos here-valid here-crossed) here-readable
         ∙ ap (λ (u : Incidence). go (turn (placeOf u))) (across-back n φ here pos here-valid here-crossed)
         ∙ ap (λ (q : Place). go (turn q)) here-place
@@ -99,7 +99,7 @@ module _ (n : ℕ) (φ : Field) (pos : 0 < n) (p : Place) (o : Tracable n φ p) 
           first = record { out = here .out; out-ok = here-valid .out-bound; same = ap facetOf (sym here-place) };
           second = record { out = exitOf n φ here; out-ok = across-valid n φ here pos here-valid here-crossed .out-bound; same = step-facet };
           first-crossed = accepted n φ p o .crosses;
-          second-crossed = accepted n φ y step-tracable .crosses;
+          second-crossed = accepted n φ y step-traceable .crosses;
         }
 
 -- ---- facets that share a readable simplex
@@ -127,14 +127,14 @@ module _ (n : ℕ) (φ : Field) (pos : 0 < n) (f g : Facet) (σ : Shares n φ f 
   first-place : Place
   first-place = placeOf (shared (σ .first .out))
 
-  first-tracable : Tracable n φ first-place
+  first-traceable : Traceable n φ first-place
   unfolding first-place shared
-  first-tracable =
-      place-tracable n φ (shared (σ .first .out)) pos (shared-valid f (σ .first)) (σ .readable)
+  first-traceable =
+      place-traceable n φ (shared (σ .first .out)) pos (shared-valid f (σ .first)) (σ .readable)
       (shared-crossed f (σ .first) (σ .first-crossed))
 
   -- they are the same facet, or a step leads from the one to the other
-  pub shares-steps : (f ≡ g) ⊎ ((q : Place) × (y : Place) × Tracable n φ q × (q .facet ≡ f) × (step n φ q ≡ go y) × (y .facet ≡ g))
+  pub shares-steps : (f ≡ g) ⊎ ((q : Place) × (y : Place) × Traceable n φ q × (q .facet ≡ f) × (step n φ q ≡ go y) × (y .facet ≡ g))
   unfolding first-place shared
   shares-steps = byOut (ℕ-discrete (σ .first .out) (σ .second .out))
     where
@@ -146,7 +146,7 @@ module _ (n : ℕ) (φ : Field) (pos : 0 < n) (f g : Facet) (σ : Shares n φ f 
 
       byOut :
           Dec (σ .first .out ≡ σ .second .out) →
-          (f ≡ g) ⊎ ((q : Place) × (y : Place) × Tracable n φ q × (q .facet ≡ f) × (step n φ q ≡ go y) × (y .facet ≡ g))
+          (f ≡ g) ⊎ ((q : Place) × (y : Place) × Traceable n φ q × (q .facet ≡ f) × (step n φ q ≡ go y) × (y .facet ≡ g))
       byOut (yes e) =
           inl (sym (shared-facet f (σ .first)) ∙ ap (λ (j : ℕ). placeOf (shared j) .facet) e ∙ shared-facet g (σ .second))
       byOut (no d) =
@@ -156,7 +156,7 @@ module _ (n : ℕ) (φ : Field) (pos : 0 < n) (f g : Facet) (σ : Shares n φ f 
           inr (
             first-place,
             turn (placeOf (without t (exitOf n φ t))),
-            first-tracable,
+            first-traceable,
             shared-facet f (σ .first),
             step-place n φ t pos (shared-valid f (σ .first)) (σ .readable),
             turn-facet _ ∙ ap (λ (j : ℕ). placeOf (shared j) .facet) (sym found) ∙ shared-facet g (σ .second),
@@ -169,12 +169,12 @@ grid-walk n φ pos =
     record {
       same-true = λ {p} {q} op oq. sameFacet-sound (p .facet) (q .facet);
       same-false = λ {p} {q} op oq. sameFacet-apart (p .facet) (q .facet);
-      ok-turn = λ {p}. turn-tracable n φ p;
-      turn-turn = λ {p} o. turn-turn p (tracable-side n φ p o);
-      turn-ne = λ {p} o. turn-moves p (tracable-side n φ p o);
+      ok-turn = λ {p}. turn-traceable n φ p;
+      turn-turn = λ {p} o. turn-turn p (traceable-side n φ p o);
+      turn-ne = λ {p} o. turn-moves p (traceable-side n φ p o);
       facet-turn = λ {p} o. turn-facet p;
-      facet-two = λ {p} {q} op oq e. same-facet-places q p (tracable-side n φ q oq) (tracable-side n φ p op) (sym e);
-      ok-step = λ {p} {y} o. step-tracable n φ pos p o y;
+      facet-two = λ {p} {q} op oq e. same-facet-places q p (traceable-side n φ q oq) (traceable-side n φ p op) (sym e);
+      ok-step = λ {p} {y} o. step-traceable n φ pos p o y;
       step-moves = λ {p} {y} o. step-leaves n φ pos p o y;
       step-back = λ {p} {y} o. step-returns n φ pos p o y;
       step-shares = λ {p} {y} o. step-shared n φ pos p o y;

@@ -4,7 +4,7 @@ use mathlib.Core.Bool.{Bool}
 use Rattle.curves.specs.Grid.{Facet, Place, sameFacet, turn}
 use Rattle.curves.specs.Walk.{Trace, trace}
 use Rattle.curves.specs.Step.{Stop, Field, step}
-use Rattle.curves.specs.Joined.{Shares, Tracable, SideReadable}
+use Rattle.curves.specs.Joined.{Shares, Traceable, SideReadable}
 use Rattle.curves.specs.WalkGrid.{Grid}
 use Rattle.curves.specs.WalkDemand.{Demand3}
 
@@ -22,8 +22,8 @@ traceOf n φ s space = trace (step n φ) sameFacets s space
 
 -- the grid has what walks need
 abbrev pub WalksOn : ℕ → Field → Type 0
-WalksOn n φ = Grid facetOf turn (step n φ) sameFacets (Tracable n φ) (SideReadable n φ) (Shares n φ)
+WalksOn n φ = Grid facetOf turn (step n φ) sameFacets (Traceable n φ) (SideReadable n φ) (Shares n φ)
 
 -- the demand on the traces from a place with space a and from the place turned with space b
 abbrev pub GridDemand3 : ℕ → Field → Place → ℕ → ℕ → Type 0
-GridDemand3 n φ s a b = Demand3 facetOf turn (step n φ) sameFacets (Tracable n φ) (SideReadable n φ) (Shares n φ) s a b
+GridDemand3 n φ s a b = Demand3 facetOf turn (step n φ) sameFacets (Traceable n φ) (SideReadable n φ) (Shares n φ) s a b

@@ -6,7 +6,7 @@ use mathlib.Core.Bool.{true}
 use mathlib.Core.List.{List}
 use lib.ListN.{length}
 use Rattle.curves.specs.Grid.{Vertex, Facet, Place, isOrder, vertices, placeAt, incidence}
-use Rattle.curves.specs.Step.{Field, readableAll, crossedFacet, tracable}
+use Rattle.curves.specs.Step.{Field, readableAll, crossedFacet, traceable}
 use Rattle.curves.specs.Curve as Curve
 
 -- a simplex: a corner and an order of the n axes
@@ -36,8 +36,8 @@ abbrev pub Joined : ℕ → Field → Facet → Facet → Type 0
 Joined n φ f g = Curve.Joined (Shares n φ) f g
 
 -- the place is well-formed, its facet in the box, readable and crossed
-abbrev pub Tracable : ℕ → Field → Place → Type 0
-Tracable n φ p = tracable n φ p ≡ true
+abbrev pub Traceable : ℕ → Field → Place → Type 0
+Traceable n φ p = traceable n φ p ≡ true
 
 -- the simplex on the place's side is readable
 abbrev pub SideReadable : ℕ → Field → Place → Type 0
@@ -45,7 +45,7 @@ SideReadable n φ p = readableAll φ (vertices (incidence n p .corner) (incidenc
 
 -- for each facet of the curve the simplices on both its sides are readable
 abbrev pub Closes : ℕ → Field → Facet → Type 0
-Closes n φ f = Curve.Closes (Shares n φ) (λ (p : Place). p .facet) (Tracable n φ) (SideReadable n φ) f
+Closes n φ f = Curve.Closes (Shares n φ) (λ (p : Place). p .facet) (Traceable n φ) (SideReadable n φ) f
 
 -- the curve has k facets
 abbrev pub HasFacets : ℕ → Field → Facet → ℕ → Type 0

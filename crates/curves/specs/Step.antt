@@ -41,8 +41,8 @@ unfoldable pub readableAll : Field → List Vertex → Bool
 readableAll φ vs = every (φ .inBox) vs && every (φ .readable) vs
 
 -- a place that Step does not refuse: well-formed, in the box, readable and crossed
-unfoldable pub tracable : ℕ → Field → Place → Bool
-tracable n φ p = placeOk n p && (readableAll φ (facetVertices (p .facet)) && crossedFacet n φ (p .facet))
+unfoldable pub traceable : ℕ → Field → Place → Bool
+traceable n φ p = placeOk n p && (readableAll φ (facetVertices (p .facet)) && crossedFacet n φ (p .facet))
 
 -- the place onward through the simplex's other crossed facet
 unfoldable pub onward : ℕ → Field → Incidence → Place

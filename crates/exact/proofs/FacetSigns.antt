@@ -1,4 +1,4 @@
--- The signs of a simplex's facets are as the door theorem (proofs/Door) asks: antisymmetric, balanced, with the three-term relation,
+-- The signs of a simplex's facets are as proofs/OnlyOtherSign asks: antisymmetric, balanced, with the three-term relation,
 -- and not all nought. And a facet is crossed exactly if its signs are: the factor (−1) to the p that the minors carry
 -- changes both sides of "has the sign of D" alike.
 use Prim.Native.Nat.{ℕ, suc, zero, _≤_, _<_}
@@ -17,7 +17,7 @@ use Rattle.exact.specs.Minors.{alternate, position, skip, minor, replace
 use Rattle.exact.proofs.Ring.{mul-comm}
 use Rattle.exact.proofs.SignLaws.{opposite, signTimes, sign-neg, sign-zero, CanCancel}
 use Rattle.exact.proofs.LexSign.{opposite-opposite, signTimes-comm, lexSign-neg, lexSign-scale, lexSign-nought, lexSign-three}
-use Rattle.exact.proofs.Door.{SimplexSigns, CrossedSigns}
+use Rattle.exact.proofs.OnlyOtherSign.{SimplexSigns, CrossedSigns}
 use Rattle.exact.proofs.CrossedTest.{SignsAgree, crossed→signs, signs→crossed}
 use Rattle.exact.proofs.Minors.{minor-negative-of-positive, minor-positive-of-negative, replacedMinor-antisymmetric, three-terms, replacedMinor-not-all-zero, coefficient-replacedMinor}
 use Rattle.exact.proofs.Position.{skip-position, skip-ne, skip-le, position-lt}
@@ -102,7 +102,7 @@ module _ (n : ℕ) (us : List Column) (p : ℕ) (p≤ : p ≤ n) where
       agree i l =
           alternateSign-injective p _ _ (sym (vertexSign-is n us p i) ∙ c .agree (skip p i) (skip-le n p i p≤ l) (skip-ne p i) ∙ facetSign-is n us p)
 
--- ---- what the door theorem asks
+-- ---- what `only-other-sign` asks
 
 module _ (n : ℕ) (us : List Column) (size : length us ≡ suc n) (large : 0 < n) (ones : (p : ℕ) → p ≤ n → getD (getD us p []) 0 0ℤ ≡ 1ℤ) where
   balance : (p : ℕ) → p ≤ n → facetSign n us p ≢ nought → (q : ℕ) × (q ≤ n) × (facetSign n us q ≡ opposite (facetSign n us p))

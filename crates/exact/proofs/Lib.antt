@@ -18,7 +18,7 @@ pub mod Minors
 pub mod ClosedForms
 pub mod DetSize
 pub mod LexSign
-pub mod Door
+pub mod OnlyOtherSign
 pub mod Exit
 pub mod CrossedTest
 pub mod FacetSigns

@@ -13,7 +13,7 @@ use Rattle.exact.specs.Int.{0ℤ, 1ℤ}
 use Rattle.exact.specs.Det.{Column}
 use Rattle.exact.specs.Crossed.{crossed, remove, exit}
 use Rattle.exact.specs.Simplex.{IsSimplex, FacetCrossed, OnlyOther, NoneOrTwo, none, two}
-use Rattle.exact.proofs.Door.{door, below-suc}
+use Rattle.exact.proofs.OnlyOtherSign.{only-other-sign, below-suc}
 use Rattle.exact.proofs.Exit.{exit-only}
 use Rattle.exact.proofs.FacetSigns.{crossed→crossedSigns, crossedSigns→crossed, simplexSigns}
 
@@ -42,7 +42,7 @@ pub only-other :
     (n : ℕ) (us : List Column) → IsSimplex n us → (p : ℕ) → p ≤ n → FacetCrossed n us p
     → (q : ℕ) × OnlyOther n (FacetCrossed n us) p q
 only-other n us s p p≤ h =
-    let (q, o) = door (simplexSigns n us (s .size) (s .large) (s .ones)) p p≤ (crossed→crossedSigns n us p p≤ h) in (
+    let (q, o) = only-other-sign (simplexSigns n us (s .size) (s .large) (s .ones)) p p≤ (crossed→crossedSigns n us p p≤ h) in (
       q,
       record {
         low = o .low;

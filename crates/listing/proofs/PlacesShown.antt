@@ -11,7 +11,7 @@ use borrow.Author.Tests.{eq-eqb}
 use Rattle.curves.specs.Grid.{Place, facetVertices}
 use Rattle.curves.specs.Curve.{_∈_}
 use Rattle.curves.specs.Step.{every, readableAll}
-use Rattle.curves.specs.Joined.{Tracable}
+use Rattle.curves.specs.Joined.{Traceable}
 use Rattle.curves.proofs.GridStep.{accepted}
 use Rattle.paper.specs.Job.{dimension, decodePlace}
 use Rattle.paper.specs.Values.{fieldOf}
@@ -74,8 +74,8 @@ unfolding readPlaces
 readPlaces-length n zero b = refl
 readPlaces-length n (suc k) b = ap suc (readPlaces-length n k (drop (3 * n) b))
 
--- the bytes of a tracable place are not refused
-bytes-pass : {s : List ℕ} → Opens s → (b : List ℕ) → length b ≡ 3 * dimension s → Tracable (dimension s) (fieldOf s) (decodePlace (dimension s) b)
+-- the bytes of a traceable place are not refused
+bytes-pass : {s : List ℕ} → Opens s → (b : List ℕ) → length b ≡ 3 * dimension s → Traceable (dimension s) (fieldOf s) (decodePlace (dimension s) b)
     → pointRefusal s b ≡ 0
 unfolding pointRefusal judgeRefusal placeBad crossedIn facetRefusal facetOf readableAll
 bytes-pass {s} o b l t =
@@ -92,7 +92,7 @@ bytes-pass {s} o b l t =
     ∙ refuse-later 11 0 (ap not (parts .crosses)))
 
 pub all-shown : {s : List ℕ} → Opens s → (k : ℕ) (b : List ℕ) → 3 * dimension s * k ≤ length b
-    → ((p : Place) → p ∈ readPlaces (dimension s) k b → Tracable (dimension s) (fieldOf s) p) → AllShown (dimension s) s k b
+    → ((p : Place) → p ∈ readPlaces (dimension s) k b → Traceable (dimension s) (fieldOf s) p) → AllShown (dimension s) s k b
 unfolding AllShown readPlaces
 all-shown {s} o zero b l t = tt
 all-shown {s} o (suc k) b l t =

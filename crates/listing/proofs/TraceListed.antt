@@ -12,11 +12,11 @@ use Rattle.curves.specs.Curve.{_∈_}
 use Rattle.curves.specs.Walk.{Trace, trace}
 use Rattle.curves.specs.Walk as Walk
 use Rattle.curves.specs.Step.{Stop}
-use Rattle.curves.specs.Joined.{Tracable}
+use Rattle.curves.specs.Joined.{Traceable}
 use Rattle.curves.proofs.WalkTrace.{trace-length}
 use Rattle.paper.specs.Job.{dimension, openRefusal}
 use Rattle.paper.specs.Values.{fieldOf}
-use Rattle.paper.specs.Operations.{Answer, refused, answered, stepIn, startOf, traceRefusal, sameSpot, traced, spaceOf, verdictAndCount, encodePlaces, bufferAfter}
+use Rattle.paper.specs.Operations.{Answer, refused, answered, stepIn, startOf, traceRefusal, onSameFacet, traced, spaceOf, verdictAndCount, encodePlaces, bufferAfter}
 use Rattle.paper.specs.Answers.{verdictAs, tracedAs}
 use Rattle.paper.specs.Listing.{listingSpace}
 use Rattle.paper.specs.Demand3.{readPlaces}
@@ -25,9 +25,9 @@ use Rattle.paper.specs.declared.Traced as Traced
 use Rattle.paper.proofs.Tests.{DimensionRange}
 use Rattle.paper.proofs.Refusals.{first-refuses, unless-refused, answered-inv}
 use Rattle.paper.proofs.Opens.{Opens, opens, opens-range}
-use Rattle.paper.proofs.StartTracable.{trace-opens, start-tracable}
+use Rattle.paper.proofs.StartTraceable.{trace-opens, start-traceable}
 use Rattle.paper.proofs.WithStart.{opens-back}
-use Rattle.paper.proofs.PlacesWritten.{listed-tracable, places-read, traced-writable}
+use Rattle.paper.proofs.PlacesWritten.{listed-traceable, places-read, traced-writable}
 use Rattle.listing.specs.Listed.{listedTrace, listedAs}
 use Rattle.listing.specs.Shown.{PlacesAsked}
 use Rattle.listing.proofs.PlacesShown.{readPlaces-length, all-shown}
@@ -106,14 +106,14 @@ module _ (s b : List ℕ) (v : Verdict) (count : ℕ) (h : traced s listingSpace
   pub count-within : count ≤ 4096
   unfolding traced listingSpace
   count-within =
-      let few = subst (λ (t : Trace Place Stop). length (t .places) ≤ 4096) (answered-inv (traceRefusal s) _ _ h .is) (trace-length (stepIn s) sameSpot (startOf s) 4096) in
+      let few = subst (λ (t : Trace Place Stop). length (t .places) ≤ 4096) (answered-inv (traceRefusal s) _ _ h .is) (trace-length (stepIn s) onSameFacet (startOf s) 4096) in
       omega (arith, few, readPlaces-length (dimension s) count b)
 
-  each-tracable : (p : Place) → p ∈ readPlaces (dimension s) count b → Tracable (dimension s) (fieldOf s) p
+  each-traceable : (p : Place) → p ∈ readPlaces (dimension s) count b → Traceable (dimension s) (fieldOf s) p
   unfolding traced
-  each-tracable p i =
-      let u = answered-inv (traceRefusal s) (trace (stepIn s) sameSpot (startOf s) listingSpace) (listedTrace s b v count) h in
-      listed-tracable listed-opens (startOf s) (start-tracable s (u .none)) listingSpace p
+  each-traceable p i =
+      let u = answered-inv (traceRefusal s) (trace (stepIn s) onSameFacet (startOf s) listingSpace) (listedTrace s b v count) h in
+      listed-traceable listed-opens (startOf s) (start-traceable s (u .none)) listingSpace p
       (subst (λ (t : Trace Place Stop). p ∈ t .places) (sym (u .is)) i)
 
   pub listed-asked : {n : ℕ} → n ≡ dimension s → length b ≡ 36864 → PlacesAsked n s count b
@@ -123,5 +123,5 @@ module _ (s b : List ℕ) (v : Verdict) (count : ℕ) (h : traced s listingSpace
       (record {
         dimension = refl;
         known = listed-opens .dimensions;
-        shown = all-shown listed-opens count b (omega (arith, room, opens-range listed-opens)) each-tracable;
+        shown = all-shown listed-opens count b (omega (arith, room, opens-range listed-opens)) each-traceable;
       })

@@ -167,6 +167,6 @@ markedCases =
 
 -- every marked case holds
 pub marked-cases-hold : AllHold markedCases
-unfolding Int._⊕_ Int.neg Int._⊖_ Int._⊗_ Int.power Det.laplace Det.ifNone Det.det Det.rowsFrom Det.determinant Sign.sign Sign.orElse Sign.lexSign Sign.sameSign Crossed.countFrom Crossed.unitColumn Crossed.coefficient Crossed.coefficients Crossed.allHaveSign Crossed.crossed Crossed.remove Crossed.otherCrossed Crossed.exit Grid.up Grid.down Grid.plus Grid.axesFrom Grid.axes Grid.holds Grid.vertices Grid.absent Grid.distinct Grid.under Grid.isOrder Grid.facetVertices Grid.chain Grid.facetOk Grid.placeOk Grid.sameVertex Grid.sameMasks Grid.sameFacet Grid.turn Grid.steps Grid.lastMask Grid.flat Grid.missed Grid.oriented Grid.added Grid.bend Grid.downs Grid.flatSide Grid.bentSide Grid.incidence Grid.masksFrom Grid.sideOf Grid.placeAt Grid.placeOf Grid.exchange Grid.lastAxis Grid.butLast Grid.pivotFirst Grid.pivotLast Grid.pivotAt Grid.pivot Grid.orders Step.every Step.column Step.columns Step.crossedFacet Step.readableAll Step.tracable Step.onward Step.stepThrough Step.step Walk.afterTest Walk.afterStep Walk.traceFrom Walk.trace Bytes.byte Bytes.word Bytes.doubleWord Bytes.signed Bytes.signedWord Bytes.signedDoubleWord Bytes.wordOf Bytes.wordBytes Limits.dimensionOk Limits.coordinateLimit Limits.termLimit Limits.coefficientLimit Limits.degreeLimit Limits.readableLimit Limits.stepsPerUnit Job.dimension Job.entryOffset Job.entryLength Job.contentsEnd Job.polynomialLengthOk Job.lengthOk Job.entriesOk Job.contentsOk Job.body Job.lowEnd Job.highEnd Job.axisOk Job.allFrom Job.boxOk Job.termCount Job.coefficientOf Job.exponentOf Job.exponentsZero Job.degree Job.termOk Job.exponentWeight Job.rises Job.polynomialOk Job.decodePlace Job.vertexBytes Job.encodePlace Job.withStart Job.refuseIf Job.openRefusal Values.monomial Values.termValue Values.sumFrom Values.rawSum Values.readableSum Values.valueOf Values.sums Values.insideFrom Values.fieldOf Values.roundSteps Values.hasAxis Values.weightSum Values.overSize Values.coordinateSteps Values.pointFrom Values.pointOf Operations.unless Operations.firstRefusal Operations.polynomialTerms Operations.openValues Operations.opened Operations.bodyRefusal Operations.partUnless Operations.bodyPart Operations.facetRefusal Operations.crossedIn Operations.placeBad Operations.facetOf Operations.judgeRefusal Operations.judged Operations.pointRefusal Operations.pointed Operations.stepIn Operations.stepped Operations.startOf Operations.traceRefusal Operations.sameSpot Operations.traced Operations.spaceOf Operations.verdictAndCount Operations.encodePlaces Operations.bufferAfter Count.ones Count.onesIn markedCases placesA placesC oneTermJob unitBox unitStart caseA caseC caseF caseG caseH caseI caseJ
+unfolding Int._⊕_ Int.neg Int._⊖_ Int._⊗_ Int.power Det.laplace Det.ifNone Det.det Det.rowsFrom Det.determinant Sign.sign Sign.orElse Sign.lexSign Sign.sameSign Crossed.countFrom Crossed.unitColumn Crossed.coefficient Crossed.coefficients Crossed.allHaveSign Crossed.crossed Crossed.remove Crossed.otherCrossed Crossed.exit Grid.up Grid.down Grid.plus Grid.axesFrom Grid.axes Grid.holds Grid.vertices Grid.absent Grid.distinct Grid.under Grid.isOrder Grid.facetVertices Grid.chain Grid.facetOk Grid.placeOk Grid.sameVertex Grid.sameMasks Grid.sameFacet Grid.turn Grid.steps Grid.lastMask Grid.flat Grid.missed Grid.oriented Grid.added Grid.bend Grid.downs Grid.flatSide Grid.bentSide Grid.incidence Grid.masksFrom Grid.sideOf Grid.placeAt Grid.placeOf Grid.exchange Grid.lastAxis Grid.butLast Grid.pivotFirst Grid.pivotLast Grid.pivotAt Grid.pivot Grid.orders Step.every Step.column Step.columns Step.crossedFacet Step.readableAll Step.traceable Step.onward Step.stepThrough Step.step Walk.afterTest Walk.afterStep Walk.traceFrom Walk.trace Bytes.byte Bytes.word Bytes.doubleWord Bytes.signed Bytes.signedWord Bytes.signedDoubleWord Bytes.wordOf Bytes.wordBytes Limits.dimensionOk Limits.coordinateLimit Limits.termLimit Limits.coefficientLimit Limits.degreeLimit Limits.readableLimit Limits.stepsPerUnit Job.dimension Job.entryOffset Job.entryLength Job.contentsEnd Job.polynomialLengthOk Job.lengthOk Job.entriesOk Job.contentsOk Job.body Job.lowEnd Job.highEnd Job.axisOk Job.allFrom Job.boxOk Job.termCount Job.coefficientOf Job.exponentOf Job.exponentsZero Job.degree Job.termOk Job.exponentWeight Job.rises Job.polynomialOk Job.decodePlace Job.vertexBytes Job.encodePlace Job.withStart Job.refuseIf Job.openRefusal Values.monomial Values.termValue Values.sumFrom Values.rawSum Values.readableSum Values.valueOf Values.sums Values.insideFrom Values.fieldOf Values.roundSteps Values.hasAxis Values.weightSum Values.overSize Values.coordinateSteps Values.pointFrom Values.pointOf Operations.unless Operations.firstRefusal Operations.polynomialTerms Operations.openValues Operations.opened Operations.bodyRefusal Operations.partUnless Operations.bodyPart Operations.facetRefusal Operations.crossedIn Operations.placeBad Operations.facetOf Operations.judgeRefusal Operations.judged Operations.pointRefusal Operations.pointed Operations.stepIn Operations.stepped Operations.startOf Operations.traceRefusal Operations.onSameFacet Operations.traced Operations.spaceOf Operations.verdictAndCount Operations.encodePlaces Operations.bufferAfter Count.ones Count.onesIn markedCases placesA placesC oneTermJob unitBox unitStart caseA caseC caseF caseG caseH caseI caseJ
 marked-cases-hold =
     ((refl, refl, refl), (refl, (refl, (refl, (refl, (refl, (refl, (refl, (refl, (refl, (refl, (refl, (refl, (refl, (refl, (refl, (refl, (refl, (refl, (refl, (refl, (refl, (refl, (refl, tt))))))))))))))))))))))))

@@ -11,7 +11,7 @@ use Rattle.exact.specs.Crossed.{countFrom}
 use Rattle.curves.specs.Grid.{Vertex, Place}
 use Rattle.curves.specs.Walk.{Verdict, loop, stopped, full}
 use Rattle.curves.specs.Step.{Stop, Field}
-use Rattle.curves.specs.Joined.{Tracable, Closes}
+use Rattle.curves.specs.Joined.{Traceable, Closes}
 use Rattle.curves.specs.GridDemand.{traceOf}
 use Rattle.curves.proofs.Finite.{within}
 use Rattle.curves.proofs.Demand.{grid-demand3, curve-finite, loop-closed, stopped-open}
@@ -21,7 +21,7 @@ use Rattle.paper.specs.Operations.{startOf, traceRefusal}
 use Rattle.paper.specs.Demand3.{CurveHas, CurveCloses}
 use Rattle.paper.proofs.Tests.{and-left, and-right, and-true}
 use Rattle.paper.proofs.Opens.{opens-range}
-use Rattle.paper.proofs.StartTracable.{trace-opens, start-tracable}
+use Rattle.paper.proofs.StartTraceable.{trace-opens, start-traceable}
 
 -- the low and high ends of m axes from axis a on
 lows : List ℕ → ℕ → ℕ → List ℤ
@@ -49,10 +49,10 @@ box-within s v l h =
 pub curve-counted : (s : List ℕ) → traceRefusal s ≡ 0 → (k : ℕ) × CurveHas s k
 curve-counted s h =
     curve-finite (dimension s) (fieldOf s) (omega (arith, opens-range (trace-opens s h) .low)) (lows (body s 0) 0 (dimension s))
-    (highs (body s 0) 0 (dimension s)) (box-within s) (startOf s) (start-tracable s h)
+    (highs (body s 0) 0 (dimension s)) (box-within s) (startOf s) (start-traceable s h)
 
 -- the verdict of a trace with space for the whole curve decides
-closes-by-verdict : (n : ℕ) (φ : Field) (pos : 0 < n) (p : Place) → Tracable n φ p → (k : ℕ) → ¬ (traceOf n φ p k .verdict ≡ full)
+closes-by-verdict : (n : ℕ) (φ : Field) (pos : 0 < n) (p : Place) → Traceable n φ p → (k : ℕ) → ¬ (traceOf n φ p k .verdict ≡ full)
     → Dec (Closes n φ (p .facet))
 closes-by-verdict n φ pos p t k room = go (traceOf n φ p k .verdict) refl
   where
@@ -65,5 +65,5 @@ pub curve-closes-or-not : (s : List ℕ) → traceRefusal s ≡ 0 → Dec (Curve
 curve-closes-or-not s h =
     let pos : 0 < dimension s = omega (arith, opens-range (trace-opens s h) .low) in
     let k = curve-counted s h in
-    let d = grid-demand3 (dimension s) (fieldOf s) pos (startOf s) (start-tracable s h) (k .0) (k .0) in
-    closes-by-verdict (dimension s) (fieldOf s) pos (startOf s) (start-tracable s h) (k .0) (d .first-enough (k .0) (k .1) (omega arith))
+    let d = grid-demand3 (dimension s) (fieldOf s) pos (startOf s) (start-traceable s h) (k .0) (k .0) in
+    closes-by-verdict (dimension s) (fieldOf s) pos (startOf s) (start-traceable s h) (k .0) (d .first-enough (k .0) (k .1) (omega arith))

@@ -16,42 +16,42 @@ use Rattle.curves.proofs.GridWalk.{grid-walk}
 use Rattle.curves.proofs.Demand.{loop-closed, stopped-open}
 use Rattle.paper.specs.Job.{dimension}
 use Rattle.paper.specs.Values.{fieldOf}
-use Rattle.paper.specs.Operations.{answered, stepIn, startOf, traceRefusal, sameSpot, traced}
+use Rattle.paper.specs.Operations.{answered, stepIn, startOf, traceRefusal, onSameFacet, traced}
 use Rattle.paper.specs.Demand3.{CurveHas, CurveCloses, Demand3}
 use Rattle.paper.proofs.Cases.{caseA, caseC, placesA, markedCases, marked-cases-hold}
 use Rattle.paper.proofs.Refusals.{Answered, answered-inv}
 use Rattle.paper.proofs.Opens.{opens-range}
-use Rattle.paper.proofs.StartTracable.{trace-opens, start-tracable}
+use Rattle.paper.proofs.StartTraceable.{trace-opens, start-traceable}
 use Rattle.paper.proofs.Demand3.{demand3}
 
 module _ (s : List ℕ) (space : ℕ) (t : Trace Place Stop) (e : traced s space ≡ answered t) where
-  inverted : Answered (traceRefusal s) (trace (stepIn s) sameSpot (startOf s) space) t
+  inverted : Answered (traceRefusal s) (trace (stepIn s) onSameFacet (startOf s) space) t
   unfolding traced
-  inverted = answered-inv (traceRefusal s) (trace (stepIn s) sameSpot (startOf s) space) t e
+  inverted = answered-inv (traceRefusal s) (trace (stepIn s) onSameFacet (startOf s) space) t e
 
   above-zero : 0 < dimension s
   above-zero = omega (arith, opens-range (trace-opens s (inverted .none)) .low)
 
   -- a curve that a trace calls loop closes
   pub loop-closes-curve : t .verdict ≡ loop → CurveCloses s
-  unfolding stepIn sameSpot
+  unfolding stepIn onSameFacet
   loop-closes-curve h =
-      loop-closed (dimension s) (fieldOf s) above-zero (startOf s) (start-tracable s (inverted .none)) space
+      loop-closed (dimension s) (fieldOf s) above-zero (startOf s) (start-traceable s (inverted .none)) space
       (ap (λ r. r .verdict) (inverted .is) ∙ h)
 
   -- a curve at which a trace stops does not close
   pub stopped-opens-curve : (w : Stop) → t .verdict ≡ stopped w → ¬ CurveCloses s
-  unfolding stepIn sameSpot
+  unfolding stepIn onSameFacet
   stopped-opens-curve w h =
-      stopped-open (dimension s) (fieldOf s) above-zero (startOf s) (start-tracable s (inverted .none)) space w
+      stopped-open (dimension s) (fieldOf s) above-zero (startOf s) (start-traceable s (inverted .none)) space w
       (ap (λ r. r .verdict) (inverted .is) ∙ h)
 
   -- and the trace's count is its number of facets
   pub loop-counts-curve : t .verdict ≡ loop → CurveHas s (length (t .places))
-  unfolding stepIn sameSpot
+  unfolding stepIn onSameFacet
   loop-counts-curve h =
       let g = grid-walk (dimension s) (fieldOf s) above-zero in
-      let o = start-tracable s (inverted .none) in
+      let o = start-traceable s (inverted .none) in
       let here : traceOf (dimension s) (fieldOf s) (startOf s) space .verdict ≡ loop = ap (λ r. r .verdict) (inverted .is) ∙ h in
       let m = not-full-traced g o space (loop-not-full here) in
       subst (λ r. CurveHas s (length (r .places))) (inverted .is)

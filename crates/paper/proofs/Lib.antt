@@ -9,7 +9,7 @@ pub mod Terms
 pub mod WordBytes
 pub mod Encode
 pub mod WithStart
-pub mod StartTracable
+pub mod StartTraceable
 pub mod PlacesWritten
 pub mod CurveCounted
 pub mod Demand3

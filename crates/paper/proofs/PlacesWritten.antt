@@ -13,7 +13,7 @@ use Rattle.curves.specs.Grid.{Place, placeOk, under}
 use Rattle.curves.specs.Curve.{_∈_}
 use Rattle.curves.specs.Walk.{Trace, trace}
 use Rattle.curves.specs.Step.{Stop, every}
-use Rattle.curves.specs.Joined.{Tracable}
+use Rattle.curves.specs.Joined.{Traceable}
 use Rattle.curves.specs.GridDemand.{WalksOn}
 use Rattle.curves.proofs.WalkRun.{run-ok}
 use Rattle.curves.proofs.WalkTrace.{trace-length}
@@ -22,12 +22,12 @@ use Rattle.curves.proofs.GridStep.{accepted}
 use Rattle.curves.proofs.GridWalk.{grid-walk}
 use Rattle.paper.specs.Job.{dimension, decodePlace, encodePlace}
 use Rattle.paper.specs.Values.{fieldOf}
-use Rattle.paper.specs.Operations.{Answer, refused, answered, stepIn, startOf, traceRefusal, sameSpot, traced, spaceOf, encodePlaces, bufferAfter}
+use Rattle.paper.specs.Operations.{Answer, refused, answered, stepIn, startOf, traceRefusal, onSameFacet, traced, spaceOf, encodePlaces, bufferAfter}
 use Rattle.paper.specs.Short.{limited}
 use Rattle.paper.specs.Demand3.{readPlaces}
 use Rattle.paper.proofs.Opens.{Opens, opens-range}
 use Rattle.paper.proofs.Encode.{encode-length, encode-bytes, decode-encode}
-use Rattle.paper.proofs.StartTracable.{tracable-limited, tracable-short, trace-opens, start-tracable}
+use Rattle.paper.proofs.StartTraceable.{traceable-limited, traceable-short, trace-opens, start-traceable}
 use Rattle.paper.proofs.Refusals.{answered-inv, unless-refused}
 
 -- what a place that Trace writes is as bytes
@@ -38,17 +38,17 @@ pub record Writable (n : ℕ) (p : Place) : Type 0 where
   pub bytes : under 256 (encodePlace p) ≡ true
   pub read : decodePlace n (encodePlace p) ≡ p
 
-pub tracable-writable : {s : List ℕ} → Opens s → (p : Place) → Tracable (dimension s) (fieldOf s) p → Writable (dimension s) p
-tracable-writable {s} o p t =
+pub traceable-writable : {s : List ℕ} → Opens s → (p : Place) → Traceable (dimension s) (fieldOf s) p → Writable (dimension s) p
+traceable-writable {s} o p t =
     let n : ℕ = dimension s in
     let form : placeOk n p ≡ true = accepted n (fieldOf s) p t .form in
     let small : 2 ^ n ≤ 2 ^ 8 = pow-le-pow-right (omega arith) {i = n} {j = 8} (omega (arith, opens-range o .high)) in
     record {
       form = form;
-      coordinates = tracable-limited o p t;
+      coordinates = traceable-limited o p t;
       count = encode-length n p form;
       bytes = encode-bytes n p small form;
-      read = decode-encode n p form (tracable-short o p t);
+      read = decode-encode n p form (traceable-short o p t);
     }
 
 module _ (n : ℕ) where
@@ -77,28 +77,28 @@ module _ (n : ℕ) where
 
 -- ---- the places of a trace
 
-module _ {s : List ℕ} (o : Opens s) (p : Place) (t : Tracable (dimension s) (fieldOf s) p) (space : ℕ) where
+module _ {s : List ℕ} (o : Opens s) (p : Place) (t : Traceable (dimension s) (fieldOf s) p) (space : ℕ) where
   -- the walks over the job's grid
   pub job-walk : WalksOn (dimension s) (fieldOf s)
   job-walk = grid-walk (dimension s) (fieldOf s) (omega (arith, opens-range o .low))
 
-  -- each place listed is tracable
-  pub listed-tracable : (q : Place) → q ∈ trace (stepIn s) sameSpot p space .places → Tracable (dimension s) (fieldOf s) q
-  unfolding stepIn sameSpot
-  listed-tracable q i =
+  -- each place listed is traceable
+  pub listed-traceable : (q : Place) → q ∈ trace (stepIn s) onSameFacet p space .places → Traceable (dimension s) (fieldOf s) q
+  unfolding stepIn onSameFacet
+  listed-traceable q i =
       ⊎-elim
       (λ e. absurd (List·Memᴰ·not-nil (subst (λ l. q ∈ l) e i)))
       (λ m. run-ok job-walk t (m .run) i)
       (nothing-or-traced job-walk t space)
 
-  pub listed-writable : (q : Place) → q ∈ trace (stepIn s) sameSpot p space .places → Writable (dimension s) q
-  listed-writable q i = tracable-writable o q (listed-tracable q i)
+  pub listed-writable : (q : Place) → q ∈ trace (stepIn s) onSameFacet p space .places → Writable (dimension s) q
+  listed-writable q i = traceable-writable o q (listed-traceable q i)
 
   -- read from the buffer at exit they are the places listed
-  pub listed-read : (buffer : List ℕ) → readPlaces (dimension s) (length (trace (stepIn s) sameSpot p space .places)) (bufferAfter (answered (trace (stepIn s) sameSpot p space)) buffer)
-      ≡ trace (stepIn s) sameSpot p space .places
+  pub listed-read : (buffer : List ℕ) → readPlaces (dimension s) (length (trace (stepIn s) onSameFacet p space .places)) (bufferAfter (answered (trace (stepIn s) onSameFacet p space)) buffer)
+      ≡ trace (stepIn s) onSameFacet p space .places
   unfolding bufferAfter
-  listed-read buffer = places-read (dimension s) (trace (stepIn s) sameSpot p space .places) _ listed-writable
+  listed-read buffer = places-read (dimension s) (trace (stepIn s) onSameFacet p space .places) _ listed-writable
 
 -- ---- the buffer
 
@@ -106,16 +106,16 @@ module _ {s : List ℕ} (o : Opens s) (p : Place) (t : Tracable (dimension s) (f
 pub traced-writable : (s : List ℕ) (space : ℕ) (t : Trace Place Stop) → traced s space ≡ answered t → (q : Place) → q ∈ t .places → Writable (dimension s) q
 unfolding traced
 traced-writable s space t e q i =
-    let u = answered-inv (traceRefusal s) (trace (stepIn s) sameSpot (startOf s) space) t e in
-    listed-writable (trace-opens s (u .none)) (startOf s) (start-tracable s (u .none)) space q (subst (λ r. q ∈ r .places) (sym (u .is)) i)
+    let u = answered-inv (traceRefusal s) (trace (stepIn s) onSameFacet (startOf s) space) t e in
+    listed-writable (trace-opens s (u .none)) (startOf s) (start-traceable s (u .none)) space q (subst (λ r. q ∈ r .places) (sym (u .is)) i)
 
 -- and their bytes fit the buffer that the space was counted from
 pub traced-fits : (s buffer : List ℕ) (t : Trace Place Stop) → traced s (spaceOf s buffer) ≡ answered t → length (encodePlaces (t .places)) ≤ length buffer
 unfolding traced spaceOf
 traced-fits s buffer t e =
     let space : ℕ = length buffer / (3 * dimension s) in
-    let u = answered-inv (traceRefusal s) (trace (stepIn s) sameSpot (startOf s) space) t e in
-    let few : length (t .places) ≤ space = subst (λ r. length (r .places) ≤ space) (u .is) (trace-length (stepIn s) sameSpot (startOf s) space) in
+    let u = answered-inv (traceRefusal s) (trace (stepIn s) onSameFacet (startOf s) space) t e in
+    let few : length (t .places) ≤ space = subst (λ r. length (r .places) ≤ space) (u .is) (trace-length (stepIn s) onSameFacet (startOf s) space) in
     let size : length (encodePlaces (t .places)) ≡ 3 * dimension s * length (t .places) =
     encodePlaces-length (dimension s) (t .places) (traced-writable s space t e) in
     subst (λ k. k ≤ length buffer) (sym size) (le-trans (mul-le-mul-left (3 * dimension s) few) (mul-div-le (length buffer) (3 * dimension s)))
@@ -135,7 +135,7 @@ buffer-length s buffer = go (traced s (spaceOf s buffer)) refl
 pub refusal-keeps : (s buffer : List ℕ) → (traceRefusal s ≡ 0 → ⊥) → bufferAfter (traced s (spaceOf s buffer)) buffer ≡ buffer
 unfolding traced bufferAfter
 refusal-keeps s buffer h =
-    ap (λ a. bufferAfter a buffer) (unless-refused (traceRefusal s) (trace (stepIn s) sameSpot (startOf s) (spaceOf s buffer)) h)
+    ap (λ a. bufferAfter a buffer) (unless-refused (traceRefusal s) (trace (stepIn s) onSameFacet (startOf s) (spaceOf s buffer)) h)
 
 -- bytes past the last place written keep their values
 pub rest-keeps : (t : Trace Place Stop) (buffer : List ℕ)

@@ -10,7 +10,7 @@ use Rattle.curves.specs.Grid.{Facet, Place, turn}
 use Rattle.curves.specs.Walk.{full, Trace}
 use Rattle.curves.specs.Step.{Stop}
 use Rattle.curves.specs.Curve.{_∈_, NoDup}
-use Rattle.curves.specs.Joined.{Shares, Joined, Tracable, SideReadable, Closes, HasFacets}
+use Rattle.curves.specs.Joined.{Shares, Joined, Traceable, SideReadable, Closes, HasFacets}
 use Rattle.curves.specs.WalkRun.{Traced}
 use Rattle.curves.specs.WalkDemand.{NeitherFull}
 use Rattle.paper.specs.Job.{dimension, decodePlace, encodePlace, withStart}
@@ -94,7 +94,7 @@ pub record Demand3 (s : List ℕ) (a b : ℕ) : Type 0 where
       ¬ (second .verdict ≡ full) →
       NeitherFull
       (λ (p : Place). p .facet)
-      (Tracable (dimension s) (fieldOf s))
+      (Traceable (dimension s) (fieldOf s))
       (SideReadable (dimension s) (fieldOf s))
       (Shares (dimension s) (fieldOf s))
       (startOf s)

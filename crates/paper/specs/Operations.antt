@@ -109,12 +109,12 @@ traceRefusal s =
     (firstRefusal (facetRefusal s (startOf s .facet)) (refuseIf (not (crossedIn s (startOf s .facet))) 11 0))
 
 -- the next facet is the start's
-unfoldable pub sameSpot : Place → Place → Bool
-sameSpot x y = sameFacet (x .facet) (y .facet)
+unfoldable pub onSameFacet : Place → Place → Bool
+onSameFacet x y = sameFacet (x .facet) (y .facet)
 
 -- verdict and places, with space for so many
 unfoldable pub traced : List ℕ → ℕ → Answer (Trace Place Stop)
-traced s space = unless (traceRefusal s) (trace (stepIn s) sameSpot (startOf s) space)
+traced s space = unless (traceRefusal s) (trace (stepIn s) onSameFacet (startOf s) space)
 
 -- the number of places for which a buffer has space: its length divided by 3n, rounded down
 unfoldable pub spaceOf : List ℕ → List ℕ → ℕ

@@ -16,7 +16,7 @@ use Rattle.exact.specs.Det.{Column, determinant}
 use Rattle.exact.proofs.SizeLaws.{size-pos, size-add, size-mul}
 use Rattle.curves.specs.Grid.{Vertex, Facet, Place, facetVertices, plus, placeOk}
 use Rattle.curves.specs.Step.{Field, column, columns, every, readableAll, crossedFacet}
-use Rattle.curves.proofs.GridStep.{Accepted, accepted-tracable}
+use Rattle.curves.proofs.GridStep.{Accepted, accepted-traceable}
 use Rattle.curves.proofs.IncidenceOf.{place-formed, place-dimension}
 use Rattle.paper.specs.Limits.{coordinateLimit, stepsPerUnit}
 use Rattle.paper.specs.Job.{dimension, decodePlace}
@@ -27,7 +27,7 @@ use Rattle.paper.specs.Answers.{padded}
 use Rattle.paper.proofs.Tests.{and-left, and-right, and-true}
 use Rattle.paper.proofs.Refusals.{neither-refused, not-refused}
 use Rattle.paper.proofs.Opens.{Opens, opens}
-use Rattle.paper.proofs.StartTracable.{tracable-limited}
+use Rattle.paper.proofs.StartTraceable.{traceable-limited}
 use Rattle.points.specs.Shares.{Share}
 use Rattle.points.proofs.Shares.{crossed-share}
 use Rattle.points.proofs.Rounded.{share-is, share-most}
@@ -136,7 +136,7 @@ unfolding pointOf facetOf
 point-size s p h =
     let place : Place = decodePlace (dimension s) p in
     let t = point-accepted s p h in
-    let low = tracable-limited (point-opens s p h) place (accepted-tracable (dimension s) (fieldOf s) place t) in
+    let low = traceable-limited (point-opens s p h) place (accepted-traceable (dimension s) (fieldOf s) place t) in
     padded-size 3 _
     (point-from-size (dimension s) (columns (fieldOf s) (facetVertices (place .facet))) (place .facet .masks)
     (facet-share (dimension s) (fieldOf s) place t) 0 (place .facet .low) (limited-size (place .facet .low) low))

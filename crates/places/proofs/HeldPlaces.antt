@@ -14,7 +14,7 @@ use Rattle.exact.specs.Int.{0ℤ}
 use Rattle.exact.proofs.SizeLaws.{size-weaken}
 use Rattle.curves.specs.Grid.{Place, chain, holds, placeOk}
 use Rattle.curves.specs.Step.{every}
-use Rattle.curves.specs.Joined.{Tracable}
+use Rattle.curves.specs.Joined.{Traceable}
 use Rattle.curves.proofs.IncidenceOf.{Formed, place-formed}
 use Rattle.curves.proofs.GridStep.{accepted}
 use Rattle.paper.specs.Limits.{dimensionOk, coordinateLimit}
@@ -26,7 +26,7 @@ use Rattle.paper.specs.Short.{limited}
 use Rattle.paper.specs.declared.Placed.{Placed}
 use Rattle.paper.proofs.Tests.{and-left, and-right, and-true, DimensionRange, dimension-range}
 use Rattle.paper.proofs.Opens.{opens}
-use Rattle.paper.proofs.StartTracable.{tracable-limited}
+use Rattle.paper.proofs.StartTraceable.{traceable-limited}
 use Rattle.values.specs.Ask.{JobOf}
 use Rattle.simplices.specs.Corners.{Sizes}
 use Rattle.judge.specs.Located.{placedFacet}
@@ -65,11 +65,11 @@ job-dimension {s} job = subst (λ k. dimensionOk k ≡ true) (sym (job .dimensio
 pub job-range : {n : ℕ} {s : List ℕ} → JobOf n s → DimensionRange n
 job-range {n} job = dimension-range n (job-dimension job)
 
-pub padded-held : {n : ℕ} {s : List ℕ} (job : JobOf n s) (q : Placed) (y : Place) → Tracable n (fieldOf s) y → placedAs q ≡ paddedPlace y
+pub padded-held : {n : ℕ} {s : List ℕ} (job : JobOf n s) (q : Placed) (y : Place) → Traceable n (fieldOf s) y → placedAs q ≡ paddedPlace y
     → (heldPlace n q ≡ y) × Held s n q
 padded-held {n} {s} job q y t e =
     let is : heldPlace n q ≡ y = padded-is n q y (job-range job .high) (accepted n (fieldOf s) y t .form) e in
-    (is, record { job = job; tracable = subst (Tracable n (fieldOf s)) (sym is) t; padded = e ∙ ap paddedPlace (sym is) })
+    (is, record { job = job; traceable = subst (Traceable n (fieldOf s)) (sym is) t; padded = e ∙ ap paddedPlace (sym is) })
 
 -- ---- a test that 0 passes holds of a list with 0 behind it
 
@@ -96,7 +96,7 @@ chain-bytes n before (m ∷ ms) l e =
 
 module _ {s : List ℕ} {n : ℕ} {p : Placed} (h : Held s n p) where
   pub held-form : Formed n (heldPlace n p)
-  held-form = place-formed n (heldPlace n p) (accepted n (fieldOf s) (heldPlace n p) (h .tracable) .form)
+  held-form = place-formed n (heldPlace n p) (accepted n (fieldOf s) (heldPlace n p) (h .traceable) .form)
 
   pub held-chain : chain n 0 (maskList n (p .mask1) (p .mask2)) ≡ true
   unfolding heldPlace placedFacet
@@ -111,8 +111,8 @@ module _ {s : List ℕ} {n : ℕ} {p : Placed} (h : Held s n p) where
   coordinates =
       subst (λ (q : Place). every limited (q .facet .low) ≡ true) (sym (h .padded))
       (every-padded limited 0ℤ refl 3 (heldPlace n p .facet .low)
-      (tracable-limited (opens s (h .job .opens)) (heldPlace n p)
-      (subst (λ k. Tracable k (fieldOf s) (heldPlace n p)) (h .job .dimension) (h .tracable))))
+      (traceable-limited (opens s (h .job .opens)) (heldPlace n p)
+      (subst (λ k. Traceable k (fieldOf s) (heldPlace n p)) (h .job .dimension) (h .traceable))))
 
   pub held-sizes : Sizes 256 (p .x) (p .y) (p .z)
   unfolding every limited coordinateLimit

@@ -12,7 +12,7 @@ use Rattle.exact.specs.Int.{0ℤ}
 use Rattle.curves.specs.Grid.{Facet}
 use Rattle.curves.proofs.SameFacet.{sameFacet-sound, sameFacet-complete}
 use Rattle.paper.specs.Cells.{lowVertex, maskList}
-use Rattle.paper.specs.Operations.{sameSpot}
+use Rattle.paper.specs.Operations.{onSameFacet}
 use Rattle.paper.specs.declared.Placed.{Placed}
 use Rattle.judge.specs.Located.{placedFacet}
 use Rattle.places.specs.Held.{heldPlace}
@@ -40,10 +40,10 @@ module _ (n : ℕ) (p q : Placed) where
       ∙ getD-take (n - 1) (q .mask1 ∷ q .mask2 ∷ []) k 0 l
 
   abbrev same : Bool
-  same = sameSpot (heldPlace n p) (heldPlace n q)
+  same = onSameFacet (heldPlace n p) (heldPlace n q)
 
   facets : same ≡ true → placedFacet n p ≡ placedFacet n q
-  unfolding sameSpot heldPlace
+  unfolding onSameFacet heldPlace
   facets e = sameFacet-sound (placedFacet n p) (placedFacet n q) e
 
   pub x-apart : 0 < n → (p .x ≡ q .x → ⊥) → same ≡ false
@@ -62,13 +62,13 @@ module _ (n : ℕ) (p q : Placed) where
   mask2-apart l d = apart same (λ e. d (mask-at 1 (omega arith) (facets e)))
 
   pub two-same : n ≡ 2 → p .x ≡ q .x → p .y ≡ q .y → p .mask1 ≡ q .mask1 → same ≡ true
-  unfolding sameSpot heldPlace placedFacet lowVertex maskList
+  unfolding onSameFacet heldPlace placedFacet lowVertex maskList
   two-same e x y m =
-      subst (λ k. sameSpot (heldPlace k p) (heldPlace k q) ≡ true) (sym e)
+      subst (λ k. onSameFacet (heldPlace k p) (heldPlace k q) ≡ true) (sym e)
       (sameFacet-complete (placedFacet 2 p) (placedFacet 2 q) (λ i. record { low = x i ∷ y i ∷ []; masks = m i ∷ [] }))
 
   all-same : p .x ≡ q .x → p .y ≡ q .y → p .z ≡ q .z → p .mask1 ≡ q .mask1 → p .mask2 ≡ q .mask2 → same ≡ true
-  unfolding sameSpot heldPlace placedFacet lowVertex maskList
+  unfolding onSameFacet heldPlace placedFacet lowVertex maskList
   all-same x y z m k =
       sameFacet-complete (placedFacet n p) (placedFacet n q)
       (λ i. record { low = take n (x i ∷ y i ∷ z i ∷ []); masks = take (n - 1) (m i ∷ k i ∷ []) })

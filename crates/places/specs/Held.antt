@@ -5,7 +5,7 @@ use mathlib.Core.Bool.{true}
 use mathlib.Core.List.{List}
 use Rattle.exact.specs.Size.{Size}
 use Rattle.curves.specs.Grid.{Place}
-use Rattle.curves.specs.Joined.{Tracable}
+use Rattle.curves.specs.Joined.{Traceable}
 use Rattle.paper.specs.Limits.{dimensionOk}
 use Rattle.paper.specs.Values.{fieldOf}
 use Rattle.paper.specs.Answers.{placedAs, paddedPlace}
@@ -20,7 +20,7 @@ heldPlace n p = record { facet = placedFacet n p; side = p .side }
 -- a place of the job that Step does not refuse; what the struct has besides is 0
 pub record Held (s : List ℕ) (n : ℕ) (p : Placed) : Type 0 where
   pub job : JobOf n s
-  pub tracable : Tracable n (fieldOf s) (heldPlace n p)
+  pub traceable : Traceable n (fieldOf s) (heldPlace n p)
   pub padded : placedAs p ≡ paddedPlace (heldPlace n p)
 
 -- the numbers of a place fit their bytes

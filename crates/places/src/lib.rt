@@ -9,7 +9,7 @@ ghost use Rattle.exact.specs.Size.{Size};
 ghost use Rattle.paper.specs.Limits.{dimensionOk};
 ghost use Rattle.paper.specs.Bytes.{wordOf, wordBytes};
 ghost use Rattle.paper.specs.Job.{encodePlace};
-ghost use Rattle.paper.specs.Operations.{sameSpot};
+ghost use Rattle.paper.specs.Operations.{onSameFacet};
 ghost use Rattle.bits.specs.Read.{Reads};
 ghost use Rattle.places.specs.Held.{heldPlace, FitsBytes};
 use bits::read;
@@ -65,7 +65,7 @@ pub fn write_place(buffer: &mut [u8], at: usize, n: usize, p: Placed)
 // Two places have the same facet.
 pub fn same_facet(n: usize, p: Placed, q: Placed) -> bool
     requires { ⌜ dimensionOk n ≡ true ⌝ }
-    ensures { λ r. ⌜ r ≡ sameSpot (heldPlace n p) (heldPlace n q) ⌝ }
+    ensures { λ r. ⌜ r ≡ onSameFacet (heldPlace n p) (heldPlace n q) ⌝ }
 {
     if p.x != q.x {
         return false;

@@ -7,8 +7,8 @@ use mathlib.Core.List.{List}
 use borrow.Author.Tests.{not-false}
 use Rattle.curves.specs.Grid.{Place, facetVertices, placeOk}
 use Rattle.curves.specs.Step.{every, readableAll}
-use Rattle.curves.specs.Joined.{Tracable}
-use Rattle.curves.proofs.GridStep.{accepted-tracable}
+use Rattle.curves.specs.Joined.{Traceable}
+use Rattle.curves.proofs.GridStep.{accepted-traceable}
 use Rattle.paper.specs.Job.{dimension, decodePlace}
 use Rattle.paper.specs.Values.{fieldOf}
 use Rattle.paper.specs.Operations.{facetRefusal, crossedIn, facetOf, judgeRefusal, pointRefusal}
@@ -19,10 +19,10 @@ use Rattle.judge.specs.declared.JobPlace.{JobPlace}
 use Rattle.judge.specs.Located.{Finds, Crosses}
 use Rattle.places.specs.Held.{heldPlace, Held}
 
-point-tracable : (s p : List ℕ) → placeOk (dimension s) (decodePlace (dimension s) p) ≡ true → pointRefusal s p ≡ 0
-    → Tracable (dimension s) (fieldOf s) (decodePlace (dimension s) p)
+point-traceable : (s p : List ℕ) → placeOk (dimension s) (decodePlace (dimension s) p) ≡ true → pointRefusal s p ≡ 0
+    → Traceable (dimension s) (fieldOf s) (decodePlace (dimension s) p)
 unfolding pointRefusal judgeRefusal facetRefusal crossedIn facetOf readableAll
-point-tracable s p form h =
+point-traceable s p form h =
     let j = neither-refused _ _ h in
     let r13 = not-refused _ 13 _ (omega arith) (neither-refused _ _ (j .first) .next) in
     let r9 = not-refused _ 9 _ (omega arith) (r13 .next) in
@@ -31,7 +31,7 @@ point-tracable s p form h =
     let f = decodePlace (dimension s) p .facet in
     let boxed : every (fieldOf s .inBox) (facetVertices f) ≡ true = not-false _ (r9 .test) in
     let read : every (fieldOf s .readable) (facetVertices f) ≡ true = not-false _ (r10 .test) in
-    accepted-tracable (dimension s) (fieldOf s) (decodePlace (dimension s) p)
+    accepted-traceable (dimension s) (fieldOf s) (decodePlace (dimension s) p)
     record { form = form; readable = and-true boxed read; crosses = not-false _ (r11 .test) }
 
 module _ {s p : List ℕ} {r : JobPlace} (c : Crosses s p r) (none : r .refusal ≡ 0) where
@@ -52,8 +52,8 @@ module _ {s p : List ℕ} {r : JobPlace} (c : Crosses s p r) (none : r .refusal 
   pub found-held : Held s (r .n) (r .place)
   found-held = record {
     job = record { opens = found .opens; dimension = found .inDimension };
-    tracable =
-        subst₂ (λ k q. Tracable k (fieldOf s) q) (sym (found .inDimension)) (sym found-place)
-        (point-tracable s p (found .form) (sym (c .number) ∙ none));
+    traceable =
+        subst₂ (λ k q. Traceable k (fieldOf s) q) (sym (found .inDimension)) (sym found-place)
+        (point-traceable s p (found .form) (sym (c .number) ∙ none));
     padded = found .place .is ∙ ap paddedPlace (sym found-place);
   }

@@ -13,7 +13,7 @@ use Rattle.curves.specs.Walk.{stop, go}
 use Rattle.curves.specs.Step.{edge, limit, every, columns, crossedFacet, onward, stepThrough, step}
 use Rattle.curves.proofs.IncidenceOf.{Valid, incidence-ok, place-incidence}
 use Rattle.curves.proofs.GridStep.{accepted, columnsOf, crossed-columns}
-use Rattle.curves.proofs.GridWalk.{other-only, step-tracable}
+use Rattle.curves.proofs.GridWalk.{other-only, step-traceable}
 use Rattle.paper.specs.Limits.{dimensionOk}
 use Rattle.paper.specs.Cells.{columnAt, lowVertex, maskList}
 use Rattle.paper.specs.Cells as Cells
@@ -128,14 +128,14 @@ module _
         way-is = w ∙ ap (λ us. exit n us out) (simplex-columns v none)
 
         valid : Valid n simplex
-        valid = subst (Valid n) simplex-is (incidence-ok n (heldPlace n p) (accepted n (fieldOf s) (heldPlace n p) (h .tracable) .form))
+        valid = subst (Valid n) simplex-is (incidence-ok n (heldPlace n p) (accepted n (fieldOf s) (heldPlace n p) (h .traceable) .form))
 
         large : 0 < n
         large = omega (arith, job-range (h .job) .low)
 
         is-place : placeOf simplex ≡ heldPlace n p
         is-place =
-            ap placeOf (sym simplex-is) ∙ place-incidence n (heldPlace n p) (accepted n (fieldOf s) (heldPlace n p) (h .tracable) .form)
+            ap placeOf (sym simplex-is) ∙ place-incidence n (heldPlace n p) (accepted n (fieldOf s) (heldPlace n p) (h .traceable) .form)
 
         pub way-inside : way ≤ n
         way-inside =
@@ -143,7 +143,7 @@ module _
             (other-only n (fieldOf s) simplex large valid
             (sym (crossed-columns n (fieldOf s) simplex large valid)
             ∙ ap (λ (q : Place). crossedFacet n (fieldOf s) (q .facet)) is-place
-            ∙ accepted n (fieldOf s) (heldPlace n p) (h .tracable) .crosses) .low)
+            ∙ accepted n (fieldOf s) (heldPlace n p) (h .traceable) .crosses) .low)
 
         ahead : Place
         ahead = turn (placeAt (lowVertex n x y z) (orderAt n row) way)
@@ -158,6 +158,6 @@ module _
         pub leads : {q : Placed} → placedAs q ≡ paddedPlace (turn (placeAt (lowVertex n x y z) (orderAt n row) way)) → Leads s n (heldPlace n p) q
         unfolding ahead
         leads {q} e =
-            let t = step-tracable n (fieldOf s) large (heldPlace n p) (h .tracable) ahead step-ahead in
+            let t = step-traceable n (fieldOf s) large (heldPlace n p) (h .traceable) ahead step-ahead in
             let r = padded-held (h .job) q ahead t e in
             record { is = job-step ∙ step-ahead ∙ ap go (sym (r .0)); held = r .1 }

@@ -6,11 +6,11 @@ use mathlib.Core.List.{List}
 use lib.ListN.{length}
 use Rattle.curves.specs.Walk.{trace}
 use Rattle.paper.specs.Job.{dimension, body, openRefusal}
-use Rattle.paper.specs.Operations.{refused, answered, unless, stepIn, startOf, traceRefusal, sameSpot, traced, spaceOf, verdictAndCount, bufferAfter}
+use Rattle.paper.specs.Operations.{refused, answered, unless, stepIn, startOf, traceRefusal, onSameFacet, traced, spaceOf, verdictAndCount, bufferAfter}
 use Rattle.paper.specs.Answers.{tracedAs}
 use Rattle.paper.specs.declared.Traced as Traced
 use Rattle.paper.proofs.Refusals.{unless-refused, first-refuses}
-use Rattle.paper.proofs.StartTracable.{start-traced}
+use Rattle.paper.proofs.StartTraceable.{start-traced}
 use Rattle.judge.specs.declared.JobPlace.{JobPlace}
 use Rattle.judge.specs.Located.{Crosses}
 use Rattle.judge.proofs.Start.{start-refusal}
@@ -25,7 +25,7 @@ pub record Answers (s b after : List ℕ) (r : Traced.Traced) : Type 0 where
 trace-refused : {s : List ℕ} (b : List ℕ) {k : ℕ} → k ≡ traceRefusal s → (k ≡ 0 → ⊥) → Answers s b b (Traced.the-variants.Refused k)
 unfolding traced tracedAs verdictAndCount bufferAfter
 trace-refused {s} b {k} e h =
-    let t = trace (stepIn s) sameSpot (startOf s) (spaceOf s b) in
+    let t = trace (stepIn s) onSameFacet (startOf s) (spaceOf s b) in
     let is : unless (traceRefusal s) t ≡ refused k = ap (λ l. unless l t) (sym e) ∙ unless-refused k t h in
     record { answer = sym (ap verdictAndCount is); buffer = sym (ap (λ a. bufferAfter a b) is) }
 
@@ -46,7 +46,7 @@ module _ {s : List ℕ} {r : JobPlace} (c : Crosses s (body s (dimension s)) r) 
     unfolding traceOver spaceOf startOf
     whole b =
         start-traced s (start-refusal s ∙ sym (c .number) ∙ none) (length b / (3 * dimension s))
-        ∙ (λ i. answered (trace (stepIn s) sameSpot (sym (found-place c none) i) (length b / (3 * sym (c .finds none .inDimension) i))))
+        ∙ (λ i. answered (trace (stepIn s) onSameFacet (sym (found-place c none) i) (length b / (3 * sym (c .finds none .inDimension) i))))
 
     pub start-answered : {b after : List ℕ} {a : Traced.Traced} → Walks s (r .n) (r .place) b after a → Answers s b after a
     start-answered {b} w = record {

@@ -15,7 +15,7 @@ use Rattle.curves.specs.Step.{Stop, edge, limit}
 use Rattle.curves.proofs.GridStep.{accepted}
 use Rattle.paper.specs.Job.{encodePlace}
 use Rattle.paper.specs.Values.{fieldOf}
-use Rattle.paper.specs.Operations.{answered, stepIn, sameSpot, encodePlaces, verdictAndCount, bufferAfter}
+use Rattle.paper.specs.Operations.{answered, stepIn, onSameFacet, encodePlaces, verdictAndCount, bufferAfter}
 use Rattle.paper.specs.Answers.{verdictAs, tracedAs}
 use Rattle.paper.specs.declared.Placed.{Placed}
 use Rattle.paper.specs.declared.Verdict as Verdict
@@ -32,21 +32,21 @@ use Rattle.places.proofs.Stores.{sets-append, encodePlaces-snoc}
 module _ (s : List ℕ) (n : ℕ) (start x : Place) where
   pub ends-at-edge : stepIn s x ≡ stop edge → VisitedIs s n start x (Code.the-variants.Over Verdict.the-variants.Edge)
   unfolding afterStep verdictAs
-  ends-at-edge e rest = ap (afterStep sameSpot rest start x) e
+  ends-at-edge e rest = ap (afterStep onSameFacet rest start x) e
 
   pub ends-at-limit : stepIn s x ≡ stop limit → VisitedIs s n start x (Code.the-variants.Over Verdict.the-variants.Limit)
   unfolding afterStep verdictAs
-  ends-at-limit e rest = ap (afterStep sameSpot rest start x) e
+  ends-at-limit e rest = ap (afterStep onSameFacet rest start x) e
 
-  pub ends-in-loop : {q : Placed} → Leads s n x q → sameSpot (heldPlace n q) start ≡ true
+  pub ends-in-loop : {q : Placed} → Leads s n x q → onSameFacet (heldPlace n q) start ≡ true
       → VisitedIs s n start x (Code.the-variants.Over Verdict.the-variants.Loop)
   unfolding afterStep afterTest verdictAs
-  ends-in-loop {q} l e rest = ap (afterStep sameSpot rest start x) (l .is) ∙ ap (afterTest rest x (heldPlace n q)) e
+  ends-in-loop {q} l e rest = ap (afterStep onSameFacet rest start x) (l .is) ∙ ap (afterTest rest x (heldPlace n q)) e
 
-  pub goes-on : {q : Placed} → Leads s n x q → sameSpot (heldPlace n q) start ≡ false → GoesOn s n start x q
+  pub goes-on : {q : Placed} → Leads s n x q → onSameFacet (heldPlace n q) start ≡ false → GoesOn s n start x q
   unfolding afterStep afterTest
   goes-on {q} l e = record {
-    is = λ rest. ap (afterStep sameSpot rest start x) (l .is) ∙ ap (afterTest rest x (heldPlace n q)) e;
+    is = λ rest. ap (afterStep onSameFacet rest start x) (l .is) ∙ ap (afterTest rest x (heldPlace n q)) e;
     held = l .held;
   }
 
@@ -62,7 +62,7 @@ pub record UnderWay (s : List ℕ) (n : ℕ) (start : Placed) (before buffer : L
   pub left : ℕ
   pub counted : length so-far ≡ count
   pub space : count + left ≡ length before / (3 * n)
-  pub rest : traceOver s n start before ≡ joined so-far (traceFrom (stepIn s) sameSpot (heldPlace n start) left (heldPlace n here))
+  pub rest : traceOver s n start before ≡ joined so-far (traceFrom (stepIn s) onSameFacet (heldPlace n start) left (heldPlace n here))
   pub bytes : length (encodePlaces so-far) ≡ 3 * n * count
   pub stored : buffer ≡ sets before 0 (encodePlaces so-far)
   pub held : Held s n here
@@ -119,7 +119,7 @@ module _ {s : List ℕ} {n : ℕ} {start : Placed} {before buffer : List ℕ} {h
       let few : count ≤ length before / (3 * n) = omega (arith, u .space) in
       listed (u .so-far) Verdict.the-variants.Full
       (u .rest
-      ∙ ap (λ k. joined (u .so-far) (traceFrom (stepIn s) sameSpot (heldPlace n start) k (heldPlace n here))) none
+      ∙ ap (λ k. joined (u .so-far) (traceFrom (stepIn s) onSameFacet (heldPlace n start) k (heldPlace n here))) none
       ∙ (λ i. record { verdict = full; places = append-nil (u .so-far) i }))
       (u .counted) (u .stored)
       (subst (λ k. k ≤ length before) (sym (u .bytes))
@@ -135,7 +135,7 @@ module _ {s : List ℕ} {n : ℕ} {start : Placed} {before buffer : List ℕ} {h
     longer-bytes : length (encodePlaces longer) ≡ 3 * n * (count + 1)
     unfolding longer
     longer-bytes =
-        let size = encode-length n (heldPlace n here) (accepted n (fieldOf s) (heldPlace n here) (u .held .tracable) .form) in
+        let size = encode-length n (heldPlace n here) (accepted n (fieldOf s) (heldPlace n here) (u .held .traceable) .form) in
         ap length (encodePlaces-snoc (u .so-far) (heldPlace n here))
         ∙ (length-append (encodePlaces (u .so-far)) (encodePlace (heldPlace n here))
         ∙ omega (arith, u .bytes, size, mul-suc (3 * n) count, ap (λ k. 3 * n * k) (add-one count)))
@@ -161,18 +161,18 @@ module _ {s : List ℕ} {n : ℕ} {start : Placed} {before buffer : List ℕ} {h
 
     -- what is left of the trace, when `here` is written
     turned : traceOver s n start before
-        ≡ joined (u .so-far) (afterStep sameSpot (λ y. traceFrom (stepIn s) sameSpot (heldPlace n start) (u .left - 1) y) (heldPlace n start) (heldPlace n here) (stepIn s (heldPlace n here)))
+        ≡ joined (u .so-far) (afterStep onSameFacet (λ y. traceFrom (stepIn s) onSameFacet (heldPlace n start) (u .left - 1) y) (heldPlace n start) (heldPlace n here) (stepIn s (heldPlace n here)))
     unfolding traceFrom
     turned =
         let one : u .left ≡ suc (u .left - 1) = omega (arith, u .space) in
-        u .rest ∙ ap (λ k. joined (u .so-far) (traceFrom (stepIn s) sameSpot (heldPlace n start) k (heldPlace n here))) one
+        u .rest ∙ ap (λ k. joined (u .so-far) (traceFrom (stepIn s) onSameFacet (heldPlace n start) k (heldPlace n here))) one
 
     -- the verdict
     pub is-over : {w : Verdict.Verdict} → VisitedIs s n (heldPlace n start) (heldPlace n here) (Code.the-variants.Over w)
         → Walks s n start before after (Traced.the-variants.Listed w (count + 1))
     unfolding longer
     is-over {w} e =
-        listed longer w (turned ∙ ap (joined (u .so-far)) (e (λ y. traceFrom (stepIn s) sameSpot (heldPlace n start) (u .left - 1) y)))
+        listed longer w (turned ∙ ap (joined (u .so-far)) (e (λ y. traceFrom (stepIn s) onSameFacet (heldPlace n start) (u .left - 1) y)))
         longer-counted longer-stored longer-fits
 
     -- the next place
@@ -185,10 +185,10 @@ module _ {s : List ℕ} {n : ℕ} {start : Placed} {before buffer : List ℕ} {h
       space = omega (arith, u .space);
       rest =
           turned
-          ∙ ap (joined (u .so-far)) (g .is (λ y. traceFrom (stepIn s) sameSpot (heldPlace n start) (u .left - 1) y))
+          ∙ ap (joined (u .so-far)) (g .is (λ y. traceFrom (stepIn s) onSameFacet (heldPlace n start) (u .left - 1) y))
           ∙ (λ i. record {
-            verdict = traceFrom (stepIn s) sameSpot (heldPlace n start) (u .left - 1) (heldPlace n q) .verdict;
-            places = sym (append-assoc (u .so-far) (heldPlace n here ∷ []) (traceFrom (stepIn s) sameSpot (heldPlace n start) (u .left - 1) (heldPlace n q) .places)) i;
+            verdict = traceFrom (stepIn s) onSameFacet (heldPlace n start) (u .left - 1) (heldPlace n q) .verdict;
+            places = sym (append-assoc (u .so-far) (heldPlace n here ∷ []) (traceFrom (stepIn s) onSameFacet (heldPlace n start) (u .left - 1) (heldPlace n q) .places)) i;
           });
       bytes = longer-bytes;
       stored = longer-stored;

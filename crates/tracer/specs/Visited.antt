@@ -9,7 +9,7 @@ use Rattle.curves.specs.Grid.{Place}
 use Rattle.curves.specs.Walk.{Trace, ended, written, afterStep, trace}
 use Rattle.curves.specs.Step.{Stop}
 use Rattle.paper.specs.Job.{encodePlace}
-use Rattle.paper.specs.Operations.{answered, stepIn, sameSpot, verdictAndCount, bufferAfter}
+use Rattle.paper.specs.Operations.{answered, stepIn, onSameFacet, verdictAndCount, bufferAfter}
 use Rattle.paper.specs.Answers.{verdictAs, tracedAs}
 use Rattle.paper.specs.declared.Placed.{Placed}
 use Rattle.paper.specs.declared.Traced.{Traced}
@@ -18,13 +18,13 @@ use Rattle.places.specs.Held.{heldPlace, Held}
 
 -- the trace goes on from the place that is held
 pub record GoesOn (s : List ℕ) (n : ℕ) (start x : Place) (q : Placed) : Type 0 where
-  pub is : (rest : Place → Trace Place Stop) → afterStep sameSpot rest start x (stepIn s x) ≡ written x (rest (heldPlace n q))
+  pub is : (rest : Place → Trace Place Stop) → afterStep onSameFacet rest start x (stepIn s x) ≡ written x (rest (heldPlace n q))
   pub held : Held s n q
 
 -- the trace ends behind x with the verdict, or goes on
 abbrev pub VisitedIs : List ℕ → ℕ → Place → Place → Code.Visited → Type 0
 VisitedIs s n start x (Code.the-variants.Over v) =
-    (rest : Place → Trace Place Stop) → afterStep sameSpot rest start x (stepIn s x) ≡ ended x (verdictAs v)
+    (rest : Place → Trace Place Stop) → afterStep onSameFacet rest start x (stepIn s x) ≡ ended x (verdictAs v)
 VisitedIs s n start x (Code.the-variants.Next q) = GoesOn s n start x q
 
 -- the place's bytes are stored, and the answer says how the trace goes on
@@ -34,7 +34,7 @@ pub record Visits (s : List ℕ) (n : ℕ) (start here : Placed) (at : ℕ) (bef
 
 -- the trace from a place with the space that the buffer has
 unfoldable pub traceOver : List ℕ → ℕ → Placed → List ℕ → Trace Place Stop
-traceOver s n start buffer = trace (stepIn s) sameSpot (heldPlace n start) (length buffer / (3 * n))
+traceOver s n start buffer = trace (stepIn s) onSameFacet (heldPlace n start) (length buffer / (3 * n))
 
 pub record Walks (s : List ℕ) (n : ℕ) (start : Placed) (before after : List ℕ) (r : Traced) : Type 0 where
   pub answer : tracedAs r ≡ verdictAndCount (answered (traceOver s n start before))

@@ -172,7 +172,7 @@ mod tests {
     /// A simplex has no crossed facet or exactly two, for all small values in dimension 3,
     /// exact zeros included.
     #[test]
-    fn doors_of_a_simplex() {
+    fn crossed_facets_of_a_simplex() {
         let columns: Vec<Column> =
             (-1..=1).flat_map(|a| (-1..=1).map(move |b| [1, a, b])).collect();
         let mut with_two = 0;

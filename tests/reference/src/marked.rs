@@ -123,10 +123,10 @@ pub fn cases(p: &dyn Product) {
 
 /// The five wrong turns.
 pub fn wrong_turns(p: &dyn Product) {
-    // A zero counted as both high and low: a triangle of values 0, 1, -1 has two doors.
+    // A zero counted as both high and low: a triangle of values 0, 1, -1 has two crossed facets.
     let zero = Parts { polynomials: vec![vec![term(-1, 0, 1, 0), term(1, 1, 0, 0)]], ..case_a() };
-    let doors = [([0, 0, 0], 1), ([0, 0, 0], 3), ([1, 0, 0], 2)];
-    let crossed = doors.map(|(lowest, mask)| {
+    let facets = [([0, 0, 0], 1), ([0, 0, 0], 3), ([1, 0, 0], 2)];
+    let crossed = facets.map(|(lowest, mask)| {
         p.judge(&zero.bytes(), &place(2, lowest, [mask, 0], 0).bytes()).expect("judged")
     });
     assert_eq!(crossed, [true, false, true]);

@@ -1,4 +1,4 @@
--- The door theorem over signs alone: in a simplex of the vertices 0, .., n, if the facet without vertex p is crossed,
+-- One other crossed facet, over signs alone: in a simplex of the vertices 0, .., n, if the facet without vertex p is crossed,
 -- then exactly one other facet is. `δ p` stands for the sign of the determinant of the facet without p, `σ p q` for the
 -- lexicographic sign of the coefficients of vertex q in that facet; both with the sign (−1)^p, which changes nothing below.
 use Prim.Native.Nat.{ℕ, suc, zero, _≤_, _<_}
@@ -204,8 +204,8 @@ module _ {n : ℕ} {δ : ℕ → Sign} {σ : ℕ → ℕ → Sign} (facts : Simp
       go (no pr) (is-opposite e) = absurd (dr e)
 
   -- exactly one other facet is crossed
-  pub door : (q : ℕ) × OnlyOther n (CrossedSigns n δ σ) p q
-  door = go (least facts (opposite (δ p)) (opposite-nonzero (δ p) (c .determined)) (suc n) (omega arith))
+  pub only-other-sign : (q : ℕ) × OnlyOther n (CrossedSigns n δ σ) p q
+  only-other-sign = go (least facts (opposite (δ p)) (opposite-nonzero (δ p) (c .determined)) (suc n) (omega arith))
     where
       go : Search δ σ (opposite (δ p)) (suc n) → (q : ℕ) × OnlyOther n (CrossedSigns n δ σ) p q
       go (none f) = let (q, q≤, e) = facts .balance p p≤ (c .determined) in absurd (f q (omega arith) e)
