@@ -1,2 +1,3 @@
 -- What the contracts of the readers say, beside the definitions of the crate paper.
 pub mod Read
+pub mod Axes

@@ -7,17 +7,24 @@ use lib.IntN.{ℤ, _+ℤ_, _-ℤ_, _*ℤ_}
 use mir.Syntax.{w64}
 use mir.Val.{SFits, toZ, ofZ}
 use Rattle.exact.specs.Int.{_⊕_, _⊖_, _⊗_}
-use Rattle.exact.specs.Size.{Size}
+use Rattle.exact.specs.Size.{Size, Is}
 use Rattle.exact.proofs.Ring.{⊕-is, ⊖-is, ⊗-is}
 use Rattle.exact.proofs.SizeLaws.{size-weaken, size-add, size-sub, size-mul, size-fits-64, size-bits-64}
 
-pub record Holds (m : ℕ) (x z : ℤ) : Type 0 where
-  pub is : x ≡ z
-  pub size : Size m z
+abbrev pub Holds : ℕ → ℤ → ℤ → Type 0
+Holds m x z = Is m z x
 
 -- a parameter, or any other number that is read back from its bits
 pub holds : {m : ℕ} {z : ℤ} → Size m z → m ≤ 2 ^ 63 - 1 → Holds m (toZ w64 (ofZ w64 z)) z
 holds s l = record { is = size-bits-64 (size-weaken s l); size = s }
+
+-- the result of a call, read back from its bits
+pub holds-call : {m : ℕ} {z r : ℤ} → Is m z r → m ≤ 2 ^ 63 - 1 → Holds m (toZ w64 (ofZ w64 r)) z
+holds-call {m} {z} h l = subst (λ t. Holds m (toZ w64 (ofZ w64 t)) z) (sym (h .is)) (holds (h .size) l)
+
+-- its size
+pub is-size : {m : ℕ} {z r : ℤ} → Is m z r → Size m r
+is-size {m} h = subst (Size m) (sym (h .is)) (h .size)
 
 -- a number's bits, read back
 abbrev pub back : ℤ → ℤ

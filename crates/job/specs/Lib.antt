@@ -1,2 +1,3 @@
--- Parts of the definition of Open's refusal, beside the definitions of the crate paper.
+-- Parts of the definition of Open's refusal, and what is known of a job that opens.
 pub mod BodyTests
+pub mod OpenJob

@@ -1,5 +1,1 @@
--- Laws that the functions' proofs cite, a file for each idea.
-pub mod HeldPlaces
-pub mod Stores
-pub mod Kept
-pub mod SameSpot
+-- Laws of vertices and places as the code holds them.

@@ -1,34 +1,31 @@
--- A place as the code holds it, with room for three axes, and what is known of one that Step does not refuse.
-use Prim.Native.Nat.{ℕ, _<_}
-use mathlib.Core.Path.{_≡_}
-use mathlib.Core.Bool.{true}
-use mathlib.Core.List.{List}
+-- A vertex and a place as the code holds them, with room for four axes: what they stand for in dimension n, and how large their numbers are.
+use Prim.Native.Nat.{ℕ, _-_}
+use mathlib.Core.List.{List, [], _∷_}
+use lib.IntN.{ℤ}
+use lib.ListN.{take}
 use Rattle.exact.specs.Size.{Size}
-use Rattle.curves.specs.Grid.{Place}
-use Rattle.curves.specs.Joined.{Traceable}
-use Rattle.paper.specs.Limits.{dimensionOk}
-use Rattle.paper.specs.Values.{fieldOf}
-use Rattle.paper.specs.Answers.{placedAs, paddedPlace}
-use Rattle.paper.specs.declared.Placed.{Placed}
-use Rattle.values.specs.Ask.{JobOf}
-use Rattle.judge.specs.Located.{placedFacet}
+use Rattle.curves.specs.Grid.{Facet, Place}
+use Rattle.curves.specs.Grid as Grid
+use Rattle.places.specs.declared.Vertex.{Vertex}
+use Rattle.places.specs.declared.HeldPlace.{HeldPlace}
 
--- the place: the first n coordinates, the first n − 1 masks and the side
-unfoldable pub heldPlace : ℕ → Placed → Place
-heldPlace n p = record { facet = placedFacet n p; side = p .side }
+-- the first n coordinates
+unfoldable pub vertexAs : ℕ → Vertex → Grid.Vertex
+vertexAs n v = take n (v .x ∷ v .y ∷ v .z ∷ v .w ∷ [])
 
--- a place of the job that Step does not refuse; what the struct has besides is 0
-pub record Held (s : List ℕ) (n : ℕ) (p : Placed) : Type 0 where
-  pub job : JobOf n s
-  pub traceable : Traceable n (fieldOf s) (heldPlace n p)
-  pub padded : placedAs p ≡ paddedPlace (heldPlace n p)
+-- the first n − 1 masks
+unfoldable pub masksAs : ℕ → HeldPlace → List ℕ
+masksAs n p = take (n - 1) (p .mask1 ∷ p .mask2 ∷ p .mask3 ∷ [])
 
--- the numbers of a place fit their bytes
-pub record FitsBytes (n : ℕ) (p : Placed) : Type 0 where
-  pub dimension : dimensionOk n ≡ true
-  pub x : Size 32767 (p .x)
-  pub y : Size 32767 (p .y)
-  pub z : Size 32767 (p .z)
-  pub mask1 : p .mask1 < 256
-  pub mask2 : p .mask2 < 256
-  pub side : p .side < 256
+unfoldable pub facetAs : ℕ → HeldPlace → Facet
+facetAs n p = record { low = vertexAs n (p .low); masks = masksAs n p }
+
+unfoldable pub placeAs : ℕ → HeldPlace → Place
+placeAs n p = record { facet = facetAs n p; side = p .side }
+
+-- the coordinates, those that do not count too, are at most m in size
+pub record VertexSize (m : ℕ) (v : Vertex) : Type 0 where
+  pub x : Size m (v .x)
+  pub y : Size m (v .y)
+  pub z : Size m (v .z)
+  pub w : Size m (v .w)

@@ -1,2 +1,2 @@
--- What the contracts of this crate cite, beside the definitions of the crates below.
+-- A vertex and a place as the code holds them.
 pub mod Held
