@@ -30,6 +30,7 @@ pub mod Orders
 pub mod Finite
 pub mod GridStep
 pub mod GridWalk
+pub mod ClosesSides
 pub mod GridLaws
 pub mod Demand
 pub mod GridExample
