@@ -2,8 +2,7 @@
 -- the walks, for each place on the curve that Step does not refuse. Each facet of the curve is crossed and readable, so that Step
 -- refuses neither of its places.
 use Prim.Native.Nat.{ℕ, _<_}
-use mathlib.Core.Path.{_≡_, subst}
-use mathlib.Core.Bool.{true}
+use mathlib.Core.Path.{subst}
 use mathlib.Core.Logic.{_↔_}
 use lib.Dec.{ltb}
 use Rattle.curves.specs.Grid.{Facet, Place, facetOk, placeOk}

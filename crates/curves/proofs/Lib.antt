@@ -24,6 +24,8 @@ pub mod OrderTests
 pub mod Vertices
 pub mod Pivot
 pub mod PRule
+pub mod VerticesChain
+pub mod RRule
 pub mod SameFacet
 pub mod Listed
 pub mod Orders
