@@ -1,4 +1,5 @@
--- The customer's third demand over the dimension and any field: the walks' record `Demand3` at the places of the grid.
+-- The customer's third demand over the dimension and any field: the walks' record `Demand3` at the places of the grid, with the
+-- paper's `Closes`.
 use Prim.Native.Nat.{ℕ}
 use mathlib.Core.Bool.{Bool}
 use Rattle.curves.specs.Grid.{Facet, Place, sameFacet, turn}
