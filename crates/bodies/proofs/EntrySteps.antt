@@ -1,4 +1,4 @@
--- The loop over the entries of the contents: what one turn says of all entries.
+-- The entries of the contents: what one turn of the loop over them says of all, and where the part that one names begins and what it holds.
 use mathlib.Core.Path.{_≡_, sym, ap, _∙_}
 use mathlib.Core.Bool.{Bool, true, false}
 use mathlib.Core.List.{List}

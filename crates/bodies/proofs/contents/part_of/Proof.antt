@@ -1,4 +1,4 @@
--- `part_of` meets its contract.
+-- `contents::part_of` meets its contract.
 use mathlib.Core.Path.{refl}
 use borrow.Author.Needs.{needs}
 use Rattle.bodies.proofs.EntrySteps.{part-begins, part-is}

@@ -1,4 +1,4 @@
--- `put_listing` meets its contract: a job that is too long, one that is refused, and one that is traced.
+-- `lines::put_listing` meets its contract: a job that is too long, one that is refused, and one that is traced.
 use mathlib.Core.Path.{_∙_}
 use native.Mathlib.Omega.{arith}
 use borrow.Author.Needs.{needs}
@@ -54,7 +54,7 @@ returns-2 c =
     let short = c .before .before .before .before .before .before .before .before .before .before .before .if1 .left in
     let listed = c .before .before .before .before .before .before .before .before .before .trace-listed .ensures in (
       writes-as (listing-refused (now (s .args .job)) _ short (c .before .before .before .before .before .answer .given .1) (listed .0)) (omega arith)
-      (c .before .before .put-refused2 .ensures),
+          (c .before .before .put-refused2 .ensures),
       listed .1 ∙ places-written (now (s .args .job)) (now (s .args .places)) short,
     )
 
