@@ -1,15 +1,16 @@
--- The loop over the entries of the contents: what one turn says of all entries.
-use mathlib.Core.Path.{_≡_, sym, _∙_}
+-- The entries of the contents: what one turn of the loop over them says of all, and where the part that one names begins and what it holds.
+use mathlib.Core.Path.{_≡_, sym, ap, _∙_}
 use mathlib.Core.Bool.{Bool, true, false}
 use mathlib.Core.List.{List}
 use Prim.Native.Nat.{ℕ, _+_, _-_, _≤_, _<_}
 use native.Mathlib.Omega.{arith}
 use lib.Dec.{eqb}
 use lib.ListN.{length, take, drop}
+use denote.Ref.{RefT}
 use borrow.Author.Tests.{eq-eqb, ne-eqb}
 use Rattle.paper.specs.Job.{entryOffset, entryLength, lengthOk, entriesOk, contentsOk, contentsEnd, body}
 use Rattle.paper.proofs.Bodies.{contents-long, contents-inside}
-use Rattle.bodies.specs.Parts.{PartInside}
+use Rattle.bodies.specs.Parts.{PartInside, BeginsAt}
 use Rattle.paper.proofs.RangeSteps.{left-one}
 
 module _ (n : ℕ) (s : List ℕ) (k at e : ℕ) {full : Bool} (inv : full ≡ entriesOk n s (e - k) k at) where
@@ -43,3 +44,9 @@ unfolding body
 part-is s k e f =
     let same : entryOffset s k + entryLength s k - entryOffset s k ≡ entryLength s k = omega arith in
     rw (e, f, same)
+
+-- a part that begins at a number begins at whatever that number is
+pub part-begins : (whole part : RefT (List ℕ)) {at offset : ℕ} → part .ptr ≡ (whole .ptr .0, at + whole .ptr .1) → at ≡ offset
+    → BeginsAt whole offset part
+unfolding BeginsAt
+part-begins whole part p e = p ∙ ap (λ (k : ℕ). (whole .ptr .0, k + whole .ptr .1)) e

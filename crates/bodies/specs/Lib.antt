@@ -1,2 +1,2 @@
--- What cutting out a body asks, beside the definitions of the crate paper.
+-- Bodies as parts of the job, beside the definitions of the crate paper.
 pub mod Parts

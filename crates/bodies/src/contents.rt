@@ -7,7 +7,7 @@ ghost use Prim.Native.Nat.{_+_, _*_, _≤_};
 ghost use lib.ListN.{length};
 ghost use Rattle.paper.specs.Job.{entryOffset, entryLength, contentsEnd, polynomialLengthOk, lengthOk, entriesOk, contentsOk, body};
 ghost use Rattle.bits.specs.Read.{Reads};
-ghost use Rattle.bodies.specs.Parts.{PartInside};
+ghost use Rattle.bodies.specs.Parts.{PartInside, BeginsAt};
 
 fn entry_offset(s: &[u8], k: usize) -> usize
     requires { ⌜ 4 * k + 8 ≤ length (now s) ⌝ }
@@ -85,7 +85,8 @@ pub fn contents_ok(n: usize, s: &[u8]) -> bool
 // Body k of a job whose contents place it inside the job.
 pub fn part_of(job: &[u8], k: usize) -> &[u8]
     requires { ⌜ PartInside (now job) k ⌝ }
-    ensures { λ r. ⌜ now r ≡ body (now (job .entry)) k ⌝ }
+    ensures place { λ r. ⌜ BeginsAt (job .entry) (entryOffset (now (job .entry)) k) r ⌝ }
+    ensures bytes { λ r. ⌜ now r ≡ body (now (job .entry)) k ⌝ }
 {
     let from = entry_offset(job, k);
     let to = from + entry_length(job, k);

@@ -20,12 +20,15 @@ use Rattle.curves.proofs.WalkTrace.{loop-not-full, loop-not-stopped, st
 use Rattle.curves.proofs.WalkJoined.{not-full-traced}
 use Rattle.curves.proofs.WalkClosed.{loop-closes, closes-loop}
 use Rattle.curves.proofs.WalkCount.{facets-exist}
-use Rattle.curves.proofs.WalkDemand.{demand3}
+use Rattle.curves.proofs.WalkDemand.{demand3, demand3-closed}
 use Rattle.curves.proofs.GridStep.{accepted}
 use Rattle.curves.proofs.GridWalk.{grid-walk}
+use Rattle.curves.proofs.ClosesSides.{closes-sides}
 
 pub grid-demand3 : (n : ℕ) (φ : Field) → 0 < n → (s : Place) → Traceable n φ s → (a b : ℕ) → GridDemand3 n φ s a b
-grid-demand3 n φ pos s o = demand3 (grid-walk n φ pos) o
+grid-demand3 n φ pos s o a b =
+    let e = closes-sides n φ pos s o in
+    demand3-closed (e .0) (e .1) (demand3 (grid-walk n φ pos) o a b)
 
 -- ---- the number of facets
 
@@ -54,9 +57,13 @@ curve-finite n φ pos low high inside s o = facets-exist (grid-walk n φ pos) o 
 
 module _ (n : ℕ) (φ : Field) (pos : 0 < n) (s : Place) (o : Traceable n φ s) (space : ℕ) where
   pub loop-closed : traceOf n φ s space .verdict ≡ loop → Closes n φ (s .facet)
-  loop-closed h = loop-closes (grid-walk n φ pos) o (not-full-traced (grid-walk n φ pos) o space (loop-not-full h)) h
+  loop-closed h =
+      closes-sides n φ pos s o .1
+      (loop-closes (grid-walk n φ pos) o (not-full-traced (grid-walk n φ pos) o space (loop-not-full h)) h)
 
   pub stopped-open : (w : Stop) → traceOf n φ s space .verdict ≡ stopped w → ¬ Closes n φ (s .facet)
   stopped-open w h c =
       let some : ¬ (traceOf n φ s space .verdict ≡ full) = stopped-not-full h in
-      loop-not-stopped (closes-loop (grid-walk n φ pos) o (not-full-traced (grid-walk n φ pos) o space some) some c) h
+      loop-not-stopped
+      (closes-loop (grid-walk n φ pos) o (not-full-traced (grid-walk n φ pos) o space some) some (closes-sides n φ pos s o .0 c))
+      h

@@ -110,11 +110,15 @@ closed k = record { taken = true; verdict = loop; count = k; turned-verdict = lo
 abbrev stops : Stop → ℕ → Stop → ℕ → Outline
 stops w k u l = record { taken = true; verdict = stopped w; count = k; turned-verdict = stopped u; turned-count = l }
 
+-- space enough for each, and so little that a wrong step ends soon
+abbrev space : ℕ
+space = 12
+
 record Outlines : Type 0 where
-  circle : outline 2 circleField planeStart 1000 ≡ closed 6
-  line : outline 2 lineField planeStart 1000 ≡ stops limit 3 edge 3
-  cross : outline 3 crossField crossStart 1000 ≡ stops edge 4 edge 1
-  ring : outline 3 ringField ringStart 1000 ≡ closed 10
+  circle : outline 2 circleField planeStart space ≡ closed 6
+  line : outline 2 lineField planeStart space ≡ stops limit 3 edge 3
+  cross : outline 3 crossField crossStart space ≡ stops edge 4 edge 1
+  ring : outline 3 ringField ringStart space ≡ closed 10
 
 outlines : Outlines
 unfolding outline planeStart circleField lineField crossField crossStart ringField ringStart _⊕_ _⊖_ _⊗_ neg within sign orElse lexSign sameSign laplace ifNone det rowsFrom determinant countFrom unitColumn coefficient coefficients allHaveSign crossed remove otherCrossed exit up down plus axesFrom axes holds vertices facetVertices chain facetOk placeOk sameVertex sameMasks sameFacet turn steps lastMask flat missed oriented added bend downs flatSide bentSide incidence masksFrom sideOf placeAt placeOf afterTest afterStep traceFrom trace every column columns crossedFacet readableAll traceable onward stepThrough step onesIn ones
@@ -172,16 +176,16 @@ outline-open n φ s space w k u l m large e total =
 -- ---- the four curves
 
 pub circle-closed : ClosedCurve 2 circleField planeStart 6
-circle-closed = outline-closed 2 circleField planeStart 1000 6 (omega arith) (outlines .circle)
+circle-closed = outline-closed 2 circleField planeStart space 6 (omega arith) (outlines .circle)
 
 pub line-open : OpenCurve 2 lineField planeStart 5
-line-open = outline-open 2 lineField planeStart 1000 limit 3 edge 3 5 (omega arith) (outlines .line) refl
+line-open = outline-open 2 lineField planeStart space limit 3 edge 3 5 (omega arith) (outlines .line) refl
 
 pub cross-open : OpenCurve 3 crossField crossStart 4
-cross-open = outline-open 3 crossField crossStart 1000 edge 4 edge 1 4 (omega arith) (outlines .cross) refl
+cross-open = outline-open 3 crossField crossStart space edge 4 edge 1 4 (omega arith) (outlines .cross) refl
 
 pub ring-closed : ClosedCurve 3 ringField ringStart 10
-ring-closed = outline-closed 3 ringField ringStart 1000 10 (omega arith) (outlines .ring)
+ring-closed = outline-closed 3 ringField ringStart space 10 (omega arith) (outlines .ring)
 
 -- the box of a field bounds its curves too
 pub ring-finite : (k : ℕ) × HasFacets 3 ringField (ringStart .facet) k

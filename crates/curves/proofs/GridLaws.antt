@@ -10,12 +10,13 @@ use Rattle.exact.specs.Crossed.{crossed, remove}
 use Rattle.exact.specs.Simplex.{NoneOrTwo}
 use Rattle.exact.proofs.Simplex.{none-or-two}
 use Rattle.curves.specs.Grid.{Vertex, Facet, Place, Incidence, vertices, facetOk, placeOk, turn, incidence, placeAt, placeOf, pivot}
+use Rattle.curves.specs.Reflection.{reflectedP, replaced, verticesOf}
 use Rattle.curves.specs.Step.{Field, columns, crossedFacet}
 use Rattle.curves.specs.Joined.{IsSimplex}
 use Rattle.curves.proofs.IncidenceOf.{place-dimension, place-incidence, Valid, incidence-ok, incidence-of-place}
 use Rattle.curves.proofs.IncidenceSides.{facet-out, sided, side-facet, sides-differ, facet-sides}
 use Rattle.curves.proofs.Pivot.{pivot-valid, pivot-turns}
-use Rattle.curves.proofs.PRule.{reflected, replaced, verticesOf, p-rule}
+use Rattle.curves.proofs.PRule.{p-rule}
 use Rattle.curves.proofs.GridStep.{columns-simplex, crossed-columns}
 
 -- ---- the crossed facets of a simplex
@@ -75,5 +76,5 @@ turn-pivot n p h =
 pub turn-vertices :
     (n : ℕ) (p : Place) → placeOk n p ≡ true →
     verticesOf (incidence n (turn p)) ≡
-    replaced n (verticesOf (incidence n p)) (incidence n p .out) (reflected (verticesOf (incidence n p)) (incidence n p .out))
+    replaced n (verticesOf (incidence n p)) (incidence n p .out) (reflectedP (verticesOf (incidence n p)) (incidence n p .out))
 turn-vertices n p h = ap verticesOf (turn-pivot n p h) ∙ p-rule n (incidence n p) (place-dimension n p h) (incidence-ok n p h)

@@ -36,6 +36,66 @@ module _ (n : ℕ) (φ : Field) (t : Incidence) (p : 0 < n) (v : Valid n t) (c :
   pub across-back : without across (exitOf n φ across) ≡ t
   across-back = ap (without t) (exit-exit n (columnsOf φ t) (columns-simplex n φ t p v) (t .out) (v .out-bound) c)
 
+-- ---- facets that share a readable simplex
+
+module _ (n : ℕ) (φ : Field) (pos : 0 < n) (f g : Facet) (σ : Shares n φ f g) where
+  shared : ℕ → Incidence
+  shared j = record { corner = σ .corner; order = σ .order; out = j }
+
+  shared-valid : (h : Facet) (k : IsFacetOf n (σ .corner) (σ .order) h) → Valid n (shared (k .out))
+  unfolding shared
+  shared-valid h k = record { is-order = σ .simplex .order-ok; corner-length = σ .simplex .corner-length; out-bound = k .out-ok }
+
+  shared-facet : (h : Facet) (k : IsFacetOf n (σ .corner) (σ .order) h) → placeOf (shared (k .out)) .facet ≡ h
+  unfolding shared placeOf
+  shared-facet h k = sym (k .same)
+
+  shared-crossed :
+      (h : Facet) (k : IsFacetOf n (σ .corner) (σ .order) h) → crossedFacet n φ h ≡ true
+      → Columns.FacetCrossed n (columnsOf φ (shared (k .out))) (k .out)
+  unfolding shared
+  shared-crossed h k c =
+      sym (crossed-columns n φ (shared (k .out)) pos (shared-valid h k)) ∙ ap (crossedFacet n φ) (shared-facet h k) ∙ c
+
+  -- the first facet's place on the simplex's side
+  first-place : Place
+  first-place = placeOf (shared (σ .first .out))
+
+  first-traceable : Traceable n φ first-place
+  unfolding first-place shared
+  first-traceable =
+      place-traceable n φ (shared (σ .first .out)) pos (shared-valid f (σ .first)) (σ .readable)
+      (shared-crossed f (σ .first) (σ .first-crossed))
+
+  -- they are the same facet, or a step leads from the one to the other
+  pub shares-steps : (f ≡ g) ⊎ ((q : Place) × (y : Place) × Traceable n φ q × (q .facet ≡ f) × (step n φ q ≡ go y) × (y .facet ≡ g))
+  unfolding first-place shared
+  shares-steps = byOut (ℕ-discrete (σ .first .out) (σ .second .out))
+    where
+      t : Incidence
+      t = shared (σ .first .out)
+
+      other : Columns.OnlyOther n (Columns.FacetCrossed n (columnsOf φ t)) (t .out) (exitOf n φ t)
+      other = other-only n φ t pos (shared-valid f (σ .first)) (shared-crossed f (σ .first) (σ .first-crossed))
+
+      byOut :
+          Dec (σ .first .out ≡ σ .second .out) →
+          (f ≡ g) ⊎ ((q : Place) × (y : Place) × Traceable n φ q × (q .facet ≡ f) × (step n φ q ≡ go y) × (y .facet ≡ g))
+      byOut (yes e) =
+          inl (sym (shared-facet f (σ .first)) ∙ ap (λ (j : ℕ). placeOf (shared j) .facet) e ∙ shared-facet g (σ .second))
+      byOut (no d) =
+          let found : σ .second .out ≡ exitOf n φ t =
+          other .only (σ .second .out) (σ .second .out-ok) d (shared-crossed g (σ .second) (σ .second-crossed))
+          in
+          inr (
+            first-place,
+            turn (placeOf (without t (exitOf n φ t))),
+            first-traceable,
+            shared-facet f (σ .first),
+            step-place n φ t pos (shared-valid f (σ .first)) (σ .readable),
+            turn-facet _ ∙ ap (λ (j : ℕ). placeOf (shared j) .facet) (sym found) ∙ shared-facet g (σ .second),
+          )
+
 -- ---- a step
 
 module _ (n : ℕ) (φ : Field) (pos : 0 < n) (p : Place) (o : Traceable n φ p) where
@@ -101,66 +161,6 @@ module _ (n : ℕ) (φ : Field) (pos : 0 < n) (p : Place) (o : Traceable n φ p)
           first-crossed = accepted n φ p o .crosses;
           second-crossed = accepted n φ y step-traceable .crosses;
         }
-
--- ---- facets that share a readable simplex
-
-module _ (n : ℕ) (φ : Field) (pos : 0 < n) (f g : Facet) (σ : Shares n φ f g) where
-  shared : ℕ → Incidence
-  shared j = record { corner = σ .corner; order = σ .order; out = j }
-
-  shared-valid : (h : Facet) (k : IsFacetOf n (σ .corner) (σ .order) h) → Valid n (shared (k .out))
-  unfolding shared
-  shared-valid h k = record { is-order = σ .simplex .order-ok; corner-length = σ .simplex .corner-length; out-bound = k .out-ok }
-
-  shared-facet : (h : Facet) (k : IsFacetOf n (σ .corner) (σ .order) h) → placeOf (shared (k .out)) .facet ≡ h
-  unfolding shared placeOf
-  shared-facet h k = sym (k .same)
-
-  shared-crossed :
-      (h : Facet) (k : IsFacetOf n (σ .corner) (σ .order) h) → crossedFacet n φ h ≡ true
-      → Columns.FacetCrossed n (columnsOf φ (shared (k .out))) (k .out)
-  unfolding shared
-  shared-crossed h k c =
-      sym (crossed-columns n φ (shared (k .out)) pos (shared-valid h k)) ∙ ap (crossedFacet n φ) (shared-facet h k) ∙ c
-
-  -- the first facet's place on the simplex's side
-  first-place : Place
-  first-place = placeOf (shared (σ .first .out))
-
-  first-traceable : Traceable n φ first-place
-  unfolding first-place shared
-  first-traceable =
-      place-traceable n φ (shared (σ .first .out)) pos (shared-valid f (σ .first)) (σ .readable)
-      (shared-crossed f (σ .first) (σ .first-crossed))
-
-  -- they are the same facet, or a step leads from the one to the other
-  pub shares-steps : (f ≡ g) ⊎ ((q : Place) × (y : Place) × Traceable n φ q × (q .facet ≡ f) × (step n φ q ≡ go y) × (y .facet ≡ g))
-  unfolding first-place shared
-  shares-steps = byOut (ℕ-discrete (σ .first .out) (σ .second .out))
-    where
-      t : Incidence
-      t = shared (σ .first .out)
-
-      other : Columns.OnlyOther n (Columns.FacetCrossed n (columnsOf φ t)) (t .out) (exitOf n φ t)
-      other = other-only n φ t pos (shared-valid f (σ .first)) (shared-crossed f (σ .first) (σ .first-crossed))
-
-      byOut :
-          Dec (σ .first .out ≡ σ .second .out) →
-          (f ≡ g) ⊎ ((q : Place) × (y : Place) × Traceable n φ q × (q .facet ≡ f) × (step n φ q ≡ go y) × (y .facet ≡ g))
-      byOut (yes e) =
-          inl (sym (shared-facet f (σ .first)) ∙ ap (λ (j : ℕ). placeOf (shared j) .facet) e ∙ shared-facet g (σ .second))
-      byOut (no d) =
-          let found : σ .second .out ≡ exitOf n φ t =
-          other .only (σ .second .out) (σ .second .out-ok) d (shared-crossed g (σ .second) (σ .second-crossed))
-          in
-          inr (
-            first-place,
-            turn (placeOf (without t (exitOf n φ t))),
-            first-traceable,
-            shared-facet f (σ .first),
-            step-place n φ t pos (shared-valid f (σ .first)) (σ .readable),
-            turn-facet _ ∙ ap (λ (j : ℕ). placeOf (shared j) .facet) (sym found) ∙ shared-facet g (σ .second),
-          )
 
 -- ---- all that walks need
 

@@ -24,12 +24,15 @@ pub mod OrderTests
 pub mod Vertices
 pub mod Pivot
 pub mod PRule
+pub mod VerticesChain
+pub mod RRule
 pub mod SameFacet
 pub mod Listed
 pub mod Orders
 pub mod Finite
 pub mod GridStep
 pub mod GridWalk
+pub mod ClosesSides
 pub mod GridLaws
 pub mod Demand
 pub mod GridExample

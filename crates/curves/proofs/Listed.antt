@@ -8,13 +8,13 @@ use mathlib.Core.List.{List·Memᴰ·tail, List·Memᴰ·not-nil, List·Memᴰ·
 use mathlib.Core.Logic.{⊎-elim}
 use native.Mathlib.Omega.{arith}
 use lib.ListN.{length}
-use lib.Dec.{eqb, ltb}
-use borrow.Author.Tests.{eqb-true, eqb-false, ltb-true}
+use lib.Dec.{eqb}
+use borrow.Author.Tests.{eqb-true, eqb-false}
 use Rattle.exact.specs.Crossed.{countFrom}
 use Rattle.curves.specs.Grid.{under}
 use Rattle.curves.specs.Curve.{_∈_}
 use Rattle.curves.specs.Step.{every}
-use Rattle.curves.proofs.OrderTests.{and-left, and-right}
+use Rattle.curves.proofs.OrderTests.{and-left, and-right, under-head, under-tail}
 
 pub countFrom-listed : (k m a : ℕ) → k ≤ a → a < k + m → a ∈ countFrom k m
 unfolding countFrom
@@ -51,8 +51,8 @@ listsUnder-listed n zero (a ∷ l) e u = absurd (omega arith)
 listsUnder-listed n (suc k) [] e u = absurd (omega arith)
 listsUnder-listed n (suc k) (a ∷ l) e u =
     pairs-listed (λ a l. a ∷ l) (countFrom 0 n) (listsUnder n k) a l
-    (countFrom-listed 0 n a (omega arith) (omega (arith, ltb-true a n (and-left (ltb a n) (under n l) u))))
-    (listsUnder-listed n k l (omega arith) (and-right (ltb a n) (under n l) u))
+    (countFrom-listed 0 n a (omega arith) (omega (arith, under-head n a l u)))
+    (listsUnder-listed n k l (omega arith) (under-tail n a l u))
 
 -- a test that holds for each of a list holds for what stands in it
 pub every-listed : {A : Type 0} (t : A → Bool) (xs : List A) (a : A) → every t xs ≡ true → a ∈ xs → t a ≡ true

@@ -7,12 +7,12 @@ use mathlib.Core.List.{List, [], _∷_, _++_}
 use native.Mathlib.Nat.{add-zero, zero-add, add-assoc}
 use native.Mathlib.Omega.{arith}
 use lib.ListN.{length}
-use lib.Dec.{eqb, ltb}
+use lib.Dec.{eqb}
 use lib.Count.{ones}
 use lib.Pow.{pow-pos}
-use borrow.Author.Tests.{ltb-true, lt-ltb, eq-eqb, ne-eqb}
+use borrow.Author.Tests.{lt-ltb, eq-eqb, ne-eqb}
 use Rattle.curves.specs.Grid.{absent, distinct, under, isOrder}
-use Rattle.curves.proofs.OrderTests.{and-left, and-right, both, order-under, order-distinct}
+use Rattle.curves.proofs.OrderTests.{and-left, and-right, both, order-under, order-distinct, under-head, under-tail}
 use Rattle.curves.proofs.MaskBits.{bit, bit-zero, bit-add-same, bit-add-other, ones-add, ones-zero, add-under}
 use Rattle.curves.proofs.MaskAxes.{all-ones}
 
@@ -39,8 +39,8 @@ fresh-from n m (a ∷ o) u d h =
     let first : bit a m ≡ 0 = h a (ap (λ (t : Bool). not t && absent a o) (eq-eqb a a refl)) in
     let other : (b : ℕ) → absent b o ≡ false → ¬ (b ≡ a)
     = λ b q e. true≢false (sym (and-left (absent a o) (distinct o) d) ∙ ap (λ (x : ℕ). absent x o) (sym e) ∙ q) in
-    next (ltb-true a n (and-left (ltb a n) (under n o) u)) first
-    (fresh-from n (m + 2 ^ a) o (and-right (ltb a n) (under n o) u) (and-right (absent a o) (distinct o) d)
+    next (under-head n a o u) first
+    (fresh-from n (m + 2 ^ a) o (under-tail n a o u) (and-right (absent a o) (distinct o) d)
     (λ b q. bit-add-other b a m (other b q) first ∙ h b (and-false (not (eqb b a)) q)))
 
 pub distinct-fresh : (n : ℕ) (o : List ℕ) → under n o ≡ true → distinct o ≡ true → Fresh n 0 o

@@ -1,13 +1,13 @@
 -- What the tests `absent`, `distinct`, `under` and `isOrder` say, and how a cons, a last element and an exchange of neighbours change them.
 -- They are equations between tests where they can be, so that each serves both ways.
-use Prim.Native.Nat.{ℕ, suc, zero}
+use Prim.Native.Nat.{ℕ, suc, zero, _<_}
 use mathlib.Core.Path.{_≡_, refl, sym, ap, _∙_}
 use mathlib.Core.Bool.{Bool, true, false, not, _&&_, and-eq-true-iff}
 use mathlib.Core.List.{List, [], _∷_, _++_}
 use native.Mathlib.Numerals.{add-one}
 use lib.ListN.{length, length-append}
 use lib.Dec.{eqb, ltb}
-use borrow.Author.Tests.{eqb-true, eqb-false, eq-eqb, ne-eqb, not-true}
+use borrow.Author.Tests.{eqb-true, eqb-false, eq-eqb, ne-eqb, ltb-true, not-true}
 use Rattle.curves.specs.Grid.{absent, distinct, under, isOrder, exchange}
 
 -- ---- two tests at once
@@ -32,6 +32,14 @@ order-under n o e = and-left (under n o) (distinct o) (and-right (eqb (length o)
 pub order-distinct : (n : ℕ) (o : List ℕ) → isOrder n o ≡ true → distinct o ≡ true
 unfolding isOrder
 order-distinct n o e = and-right (under n o) (distinct o) (and-right (eqb (length o) n) (under n o && distinct o) e)
+
+pub under-head : (n a : ℕ) (o : List ℕ) → under n (a ∷ o) ≡ true → a < n
+unfolding under
+under-head n a o u = ltb-true a n (and-left (ltb a n) (under n o) u)
+
+pub under-tail : (n a : ℕ) (o : List ℕ) → under n (a ∷ o) ≡ true → under n o ≡ true
+unfolding under
+under-tail n a o u = and-right (ltb a n) (under n o) u
 
 pub distinct-head : (a : ℕ) (o : List ℕ) → distinct (a ∷ o) ≡ true → absent a o ≡ true
 unfolding distinct

@@ -6,7 +6,7 @@ use mathlib.Core.Bool.{Bool}
 use mathlib.Core.Logic.{⊎-elim}
 use mathlib.Core.List.{map, Memᴰ·map, Memᴰ·cast}
 use Rattle.curves.specs.Walk.{Next, go, Verdict, loop, stopped, full, Trace}
-use Rattle.curves.specs.Curve.{_∈_, Joined, itself, Closes}
+use Rattle.curves.specs.Curve.{_∈_, Joined, itself, ClosesAtPlaces}
 use Rattle.curves.specs.WalkGrid.{Grid}
 use Rattle.curves.specs.WalkRun.{Steps, Ends, Traced}
 use Rattle.curves.proofs.WalkSteps.{next-unique, go-not-stop, steps-more, steps-ok, no-steps-to-turned}
@@ -67,12 +67,12 @@ module _
       (traced-first g m)
       (λ p y op i e. let u = loop-step o m h op i in Memᴰ·cast (ap facet (next-unique e (u .1))) (u .2))
 
-  pub loop-closes : {s : P} {t : Trace P W} → Ok s → Traced facet step s t → t .verdict ≡ loop → Closes Shares facet Ok Side (facet s)
+  pub loop-closes : {s : P} {t : Trace P W} → Ok s → Traced facet step s t → t .verdict ≡ loop → ClosesAtPlaces Shares facet Ok Side (facet s)
   loop-closes o m h p op j = g .go-side op (loop-step o m h op (loop-covers o m h (facet p) j) .1)
 
   pub closes-loop :
       {s : P} {t : Trace P W} →
-      Ok s → Traced facet step s t → ¬ (t .verdict ≡ full) → Closes Shares facet Ok Side (facet s) → t .verdict ≡ loop
+      Ok s → Traced facet step s t → ¬ (t .verdict ≡ full) → ClosesAtPlaces Shares facet Ok Side (facet s) → t .verdict ≡ loop
   closes-loop {s} {t} o m n c = ending (t .verdict) refl (m .ends)
     where
       ending : (v : Verdict W) → t .verdict ≡ v → Ends facet step s (m .last) v → t .verdict ≡ loop

@@ -7,7 +7,7 @@ use mathlib.Core.Logic.{⊎-elim}
 use mathlib.Core.List.{List, [], _∷_, _++_, map, List·Memᴰ·not-nil}
 use lib.ListN.{length, length-append}
 use Rattle.curves.specs.Walk.{Next, Verdict, loop, stopped, full, Trace}
-use Rattle.curves.specs.Curve.{_∈_, NoDup, none, Joined, Closes, HasFacets}
+use Rattle.curves.specs.Curve.{_∈_, NoDup, none, Joined, ClosesAtPlaces, HasFacets}
 use Rattle.curves.specs.WalkGrid.{Grid}
 use Rattle.curves.specs.WalkRun.{Traced}
 use Rattle.curves.specs.WalkDemand.{BothLoop, NeitherLoop, NeitherFull, Demand3}
@@ -37,9 +37,9 @@ module _
       (mt : Traced facet step s t) (nt : ¬ (t .verdict ≡ full))
       (mb : Traced facet step (turn s) b) (nb : ¬ (b .verdict ≡ full))
     where
-      closed-loops : Closes Shares facet Ok Side (facet s) → BothLoop facet Shares s t b
+      closed-loops : ClosesAtPlaces Shares facet Ok Side (facet s) → BothLoop facet Shares s t b
       closed-loops c =
-          let c′ : Closes Shares facet Ok Side (facet (turn s)) = λ p op j. c p op (unturned o j) in
+          let c′ : ClosesAtPlaces Shares facet Ok Side (facet (turn s)) = λ p op j. c p op (unturned o j) in
           let lt = closes-loop g o mt nt c in
           let lb = closes-loop g (g .ok-turn o) mb nb c′ in
           record {
@@ -49,7 +49,7 @@ module _
             second-every = λ f j. loop-covers g (g .ok-turn o) mb lb f (turned o j);
           }
 
-      open-stops : ¬ Closes Shares facet Ok Side (facet s) → NeitherLoop facet Shares s t b
+      open-stops : ¬ ClosesAtPlaces Shares facet Ok Side (facet s) → NeitherLoop facet Shares s t b
       open-stops c = byVerdict (t .verdict) refl
         where
           not-second : ¬ (b .verdict ≡ loop)
@@ -69,7 +69,7 @@ module _
                     u .2 ∙ ap (λ n. n + 1) (has-facets-unique (u .1) i);
               }
 
-      whole : NeitherFull facet Ok Side Shares s t b
+      whole : NeitherFull facet Shares (ClosesAtPlaces Shares facet Ok Side (facet s)) s t b
       whole =
           record {
             every = both-cover g o mt nt mb nb;
@@ -78,7 +78,7 @@ module _
             not-closed = open-stops;
           }
 
-  pub demand3 : {s : P} → Ok s → (a b : ℕ) → Demand3 facet turn step same Ok Side Shares s a b
+  pub demand3 : {s : P} → Ok s → (a b : ℕ) → Demand3 facet turn step same Shares (ClosesAtPlaces Shares facet Ok Side (facet s)) s a b
   demand3 {s} o a b =
       record {
         reversed = ⊎-elim (λ e l z h. absurd (snoc-not-nil l z (sym h ∙ e))) (traced-reverse g o) (nothing-or-traced g o a);
@@ -93,3 +93,25 @@ module _
         second-enough = λ k c. enough-not-full g (g .ok-turn o) (subst (λ f. HasFacets Shares f k) (sym (g .facet-turn o)) c) b;
         neither-full = λ nt nb. whole o (not-full-traced g o a nt) nt (not-full-traced g (g .ok-turn o) b nb) nb;
       }
+
+-- The demand says the same with an equivalent form of "the curve closes".
+pub demand3-closed :
+    {P W F : Type 0} {facet : P → F} {turn : P → P} {step : P → Next P W} {same : P → P → Bool} {Shares : F → F → Type 0} {C D : Type 0} {s : P} {a b : ℕ} →
+    (D → C) → (C → D) → Demand3 facet turn step same Shares C s a b → Demand3 facet turn step same Shares D s a b
+demand3-closed to from d =
+    record {
+      reversed = d .reversed;
+      no-repeat = d .no-repeat;
+      joined = d .joined;
+      first-enough = d .first-enough;
+      second-enough = d .second-enough;
+      neither-full =
+          λ nt nb.
+          let w = d .neither-full nt nb in
+          record {
+            every = w .every;
+            only = w .only;
+            closed = λ h. w .closed (to h);
+            not-closed = λ h. w .not-closed (λ c. h (from c));
+          };
+    }

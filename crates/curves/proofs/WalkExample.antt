@@ -7,7 +7,7 @@ use mathlib.Core.Bool.{Bool, true, false, not, false≢true}
 use mathlib.Core.Logic.{_⊎_, inl, inr}
 use mathlib.Core.List.{[], _∷_, List·Memᴰ·head, List·Memᴰ·tail}
 use Rattle.curves.specs.Walk.{Next, stop, go, loop, stopped, full, afterTest, afterStep, traceFrom, trace}
-use Rattle.curves.specs.Curve.{_∈_, Joined, Closes, HasFacets}
+use Rattle.curves.specs.Curve.{_∈_, Joined, ClosesAtPlaces, HasFacets}
 use Rattle.curves.specs.WalkGrid.{Grid}
 use Rattle.curves.specs.WalkDemand.{Demand3}
 use Rattle.curves.proofs.WalkTrace.{stopped-not-full, loop-not-full, loop-not-stopped, trace-traced}
@@ -178,11 +178,11 @@ ring-full : trace (step ring) same (at a true) 2 ≡ record { verdict = full; pl
 unfolding trace traceFrom afterStep afterTest
 ring-full = refl
 
-ring-closes : Closes (Shares ring) facet (Ok ring) (Side ring) a
+ring-closes : ClosesAtPlaces (Shares ring) facet (Ok ring) (Side ring) a
 unfolding trace traceFrom afterStep afterTest
 ring-closes = loop-closes ring-grid {s = at a true} tt (trace-traced ring-grid tt 2) refl
 
-ring-demand : (m n : ℕ) → Demand3 facet turn (step ring) same (Ok ring) (Side ring) (Shares ring) (at a true) m n
+ring-demand : (m n : ℕ) → Demand3 facet turn (step ring) same (Shares ring) (ClosesAtPlaces (Shares ring) facet (Ok ring) (Side ring) a) (at a true) m n
 ring-demand = demand3 ring-grid tt
 
 -- The trace the other way round lists all of it too.
@@ -215,12 +215,12 @@ row-trace : trace (step row) same (at b true) 1000000 ≡ record { verdict = sto
 unfolding trace traceFrom afterStep afterTest
 row-trace = refl
 
-row-not-closes : Closes (Shares row) facet (Ok row) (Side row) b → ⊥
+row-not-closes : ClosesAtPlaces (Shares row) facet (Ok row) (Side row) b → ⊥
 unfolding trace traceFrom afterStep afterTest
 row-not-closes h =
     loop-not-stopped (closes-loop row-grid {s = at b true} tt (trace-traced row-grid tt 2) (stopped-not-full refl) h) refl
 
-row-demand : (m n : ℕ) → Demand3 facet turn (step row) same (Ok row) (Side row) (Shares row) (at b true) m n
+row-demand : (m n : ℕ) → Demand3 facet turn (step row) same (Shares row) (ClosesAtPlaces (Shares row) facet (Ok row) (Side row) b) (at b true) m n
 row-demand = demand3 row-grid tt
 
 every-three : (p : Place) → facet p ∈ (a ∷ b ∷ c ∷ [])

@@ -118,7 +118,7 @@ sameMasks (l ∷ ls) (m ∷ ms) = eqb l m && sameMasks ls ms
 unfoldable pub sameFacet : Facet → Facet → Bool
 sameFacet f g = sameVertex (f .low) (g .low) && sameMasks (f .masks) (g .masks)
 
--- the other side
+-- the same facet with the other side: document 01 calls this the place *turned*
 unfoldable pub turn : Place → Place
 turn p = record { facet = p .facet; side = 1 - p .side }
 

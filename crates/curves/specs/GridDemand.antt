@@ -1,10 +1,11 @@
--- The customer's third demand over the dimension and any field: the walks' record `Demand3` at the places of the grid.
+-- The customer's third demand over the dimension and any field: the walks' record `Demand3` at the places of the grid, with the
+-- paper's `Closes`.
 use Prim.Native.Nat.{ℕ}
 use mathlib.Core.Bool.{Bool}
 use Rattle.curves.specs.Grid.{Facet, Place, sameFacet, turn}
 use Rattle.curves.specs.Walk.{Trace, trace}
 use Rattle.curves.specs.Step.{Stop, Field, step}
-use Rattle.curves.specs.Joined.{Shares, Traceable, SideReadable}
+use Rattle.curves.specs.Joined.{Shares, Traceable, SideReadable, Closes}
 use Rattle.curves.specs.WalkGrid.{Grid}
 use Rattle.curves.specs.WalkDemand.{Demand3}
 
@@ -26,4 +27,4 @@ WalksOn n φ = Grid facetOf turn (step n φ) sameFacets (Traceable n φ) (SideRe
 
 -- the demand on the traces from a place with space a and from the place turned with space b
 abbrev pub GridDemand3 : ℕ → Field → Place → ℕ → ℕ → Type 0
-GridDemand3 n φ s a b = Demand3 facetOf turn (step n φ) sameFacets (Traceable n φ) (SideReadable n φ) (Shares n φ) s a b
+GridDemand3 n φ s a b = Demand3 facetOf turn (step n φ) sameFacets (Shares n φ) (Closes n φ (s .facet)) s a b

@@ -1,6 +1,6 @@
 -- Joined facets, curves and closing: document 01, section "Crossed", in its words, over the dimension and any field. Nothing
 -- here speaks of the step.
-use Prim.Native.Nat.{ℕ, _≤_}
+use Prim.Native.Nat.{ℕ, _≤_, _<_}
 use mathlib.Core.Path.{_≡_}
 use mathlib.Core.Bool.{true}
 use mathlib.Core.List.{List}
@@ -31,22 +31,23 @@ pub record Shares (n : ℕ) (φ : Field) (f g : Facet) : Type 0 where
   pub first-crossed : crossedFacet n φ f ≡ true
   pub second-crossed : crossedFacet n φ g ≡ true
 
--- a chain of crossed facets leads from one to the other, each sharing a readable simplex with the next
+-- a chain of crossed facets leads from one to the other, each sharing a readable simplex with the next; the facets joined to f
+-- are what document 01 calls its *curve*
 abbrev pub Joined : ℕ → Field → Facet → Facet → Type 0
 Joined n φ f g = Curve.Joined (Shares n φ) f g
 
--- the place is well-formed, its facet in the box, readable and crossed
-abbrev pub Traceable : ℕ → Field → Place → Type 0
-Traceable n φ p = traceable n φ p ≡ true
+-- the curve of f, all the facets joined to it, has k facets
+abbrev pub HasFacets : ℕ → Field → Facet → ℕ → Type 0
+HasFacets n φ f k = Curve.HasFacets (Shares n φ) f k
 
 -- the simplex on the place's side is readable
 abbrev pub SideReadable : ℕ → Field → Place → Type 0
 SideReadable n φ p = readableAll φ (vertices (incidence n p .corner) (incidence n p .order)) ≡ true
 
--- for each facet of the curve the simplices on both its sides are readable
+-- the curve of f closes: for each facet joined to f and each of its two sides, the simplex on that side is readable
 abbrev pub Closes : ℕ → Field → Facet → Type 0
-Closes n φ f = Curve.Closes (Shares n φ) (λ (p : Place). p .facet) (Traceable n φ) (SideReadable n φ) f
+Closes n φ f = (g : Facet) → Joined n φ f g → (side : ℕ) → side < 2 → SideReadable n φ record { facet = g; side = side }
 
--- the curve has k facets
-abbrev pub HasFacets : ℕ → Field → Facet → ℕ → Type 0
-HasFacets n φ f k = Curve.HasFacets (Shares n φ) f k
+-- Nothing above speaks of this: the place is well-formed, its facet in the box, readable and crossed
+abbrev pub Traceable : ℕ → Field → Place → Type 0
+Traceable n φ p = traceable n φ p ≡ true

@@ -36,7 +36,7 @@ columns φ vs = map (column φ) vs
 unfoldable pub crossedFacet : ℕ → Field → Facet → Bool
 crossedFacet n φ f = crossed n (columns φ (facetVertices f))
 
--- the vertices lie in the box and their values are readable
+-- the vertices lie in the box and their values are readable: document 01 calls a simplex with such vertices *readable*
 unfoldable pub readableAll : Field → List Vertex → Bool
 readableAll φ vs = every (φ .inBox) vs && every (φ .readable) vs
 

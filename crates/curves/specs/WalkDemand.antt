@@ -1,5 +1,6 @@
 -- The customer's third demand, over abstract places, sentence by sentence.
--- `Demand3 .. s a b` speaks of the trace from s with space a and the trace from s turned with space b.
+-- `Demand3 .. s a b` speaks of the trace from s with space a and the trace from s turned with space b. `Closed` says that the
+-- curve of the facet of s closes.
 use Prim.Native.Nat.{ℕ, _+_, _≤_}
 use mathlib.Core.Path.{_≡_}
 use mathlib.Core.Bool.{Bool}
@@ -7,7 +8,7 @@ use mathlib.Core.Logic.{_⊎_}
 use mathlib.Core.List.{List, [], _∷_, _++_, map, reverse}
 use lib.ListN.{length}
 use Rattle.curves.specs.Walk.{Next, loop, full, Trace, trace}
-use Rattle.curves.specs.Curve.{_∈_, NoDup, Joined, Closes, HasFacets}
+use Rattle.curves.specs.Curve.{_∈_, NoDup, Joined, HasFacets}
 
 module _ {P W F : Type 0} (facet : P → F) where
   -- If the curve closes: both verdicts are loop and each trace lists all of it.
@@ -27,18 +28,18 @@ module _ {P W F : Type 0} (facet : P → F) where
 
   -- What holds of the two traces whenever neither is full: together they list every facet of the curve and no other, and
   -- the verdicts tell whether it closes.
-  pub record NeitherFull (Ok Side : P → Type 0) (Shares : F → F → Type 0) (s : P) (t b : Trace P W) : Type 0 where
+  pub record NeitherFull (Shares : F → F → Type 0) (Closed : Type 0) (s : P) (t b : Trace P W) : Type 0 where
     pub every : (f : F) → Joined Shares (facet s) f → (f ∈ map facet (t .places)) ⊎ (f ∈ map facet (b .places))
     pub only : (f : F) → (f ∈ map facet (t .places)) ⊎ (f ∈ map facet (b .places)) → Joined Shares (facet s) f
-    pub closed : Closes Shares facet Ok Side (facet s) → BothLoop Shares s t b
-    pub not-closed : ¬ Closes Shares facet Ok Side (facet s) → NeitherLoop Shares s t b
+    pub closed : Closed → BothLoop Shares s t b
+    pub not-closed : ¬ Closed → NeitherLoop Shares s t b
 
   pub record Demand3
       (turn : P → P)
       (step : P → Next P W)
       (same : P → P → Bool)
-      (Ok Side : P → Type 0)
       (Shares : F → F → Type 0)
+      (Closed : Type 0)
       (s : P)
       (a b : ℕ)
       : Type 0 where
@@ -57,4 +58,4 @@ module _ {P W F : Type 0} (facet : P → F) where
     pub neither-full :
         ¬ (trace step same s a .verdict ≡ full) →
         ¬ (trace step same (turn s) b .verdict ≡ full) →
-        NeitherFull Ok Side Shares s (trace step same s a) (trace step same (turn s) b)
+        NeitherFull Shares Closed s (trace step same s a) (trace step same (turn s) b)

@@ -10,10 +10,11 @@ use borrow.Author.Tests.{lt-ltb, le-ltb, eq-eqb, ne-eqb}
 use Rattle.curves.specs.Grid.{placeOk}
 use Rattle.paper.specs.Bytes.{byte}
 use Rattle.paper.specs.Limits.{dimensionOk}
-use Rattle.paper.specs.Job.{dimension, contentsOk, body, boxOk, allFrom, polynomialOk, decodePlace, refuseIf, openRefusal}
+use Rattle.paper.specs.Job.{dimension, entryOffset, contentsOk, body, boxOk, allFrom, polynomialOk, decodePlace, refuseIf, openRefusal}
 use Rattle.paper.specs.Operations.{refused, answered, polynomialTerms, openValues, opened, bodyRefusal}
 use Rattle.paper.proofs.Refusals.{refuse-here, refuse-later, first-refuses, first-passes, unless-refused, unless-answered}
 use Rattle.job.specs.BodyTests.{bodiesRefusal, startRefusal}
+use Rattle.job.specs.PartOffset.{partOffset}
 
 -- ---- refusals 1 to 4
 
@@ -107,3 +108,13 @@ module _ (s : List ℕ) (k : ℕ) {r : ℕ} (e : r ≡ openRefusal s) where
   unfolding bodyRefusal
   body-index-wrong z d l =
       let u : dimension s + 1 ≤ k = omega arith in sym (first-passes _ (sym e ∙ z) ∙ refuse-here 12 0 (ap not (le-ltb _ _ u)))
+
+-- ---- where Body's part begins
+
+pub refused-offset : (s : List ℕ) (k : ℕ) → (bodyRefusal s k ≡ 0 → ⊥) → partOffset s k ≡ 0
+unfolding partOffset
+refused-offset s k h = rw (ne-eqb (bodyRefusal s k) 0 h)
+
+pub given-offset : (s : List ℕ) (k : ℕ) → bodyRefusal s k ≡ 0 → partOffset s k ≡ entryOffset s k
+unfolding partOffset
+given-offset s k h = rw (eq-eqb (bodyRefusal s k) 0 h)

@@ -1,3 +1,4 @@
--- Parts of the definition of Open's refusal, and what is known of a job that opens.
+-- Parts of the definition of Open's refusal, where Body's part begins, and what is known of a job that opens.
 pub mod BodyTests
+pub mod PartOffset
 pub mod OpenJob

@@ -10,10 +10,12 @@ ghost use mathlib.Core.Path.{_≡_};
 ghost use mathlib.Core.Bool.{true, false};
 ghost use Prim.Native.Nat.{_+_, _-_, _≤_, _<_};
 ghost use Rattle.paper.specs.Limits.{dimensionOk};
-ghost use Rattle.paper.specs.Job.{dimension, body, contentsOk, allFrom, polynomialOk, openRefusal};
+ghost use Rattle.paper.specs.Job.{dimension, entryOffset, body, contentsOk, allFrom, polynomialOk, openRefusal};
 ghost use Rattle.paper.specs.Operations.{opened, polynomialTerms, bodyRefusal, bodyPart};
 ghost use Rattle.paper.specs.Answers.{openedAs};
+ghost use Rattle.bodies.specs.Parts.{BeginsAt};
 ghost use Rattle.job.specs.BodyTests.{bodiesRefusal};
+ghost use Rattle.job.specs.PartOffset.{partOffset};
 
 // Every polynomial's terms are right and rise.
 fn polynomials_ok(n: usize, job: &[u8]) -> bool
@@ -84,7 +86,8 @@ pub fn opened_dimension(job: &[u8]) -> usize
 // Body k of a job that opens.
 pub fn opened_body(job: &[u8], k: usize) -> &[u8]
     requires { ⌜ (openRefusal (now job) ≡ 0) × (k ≤ dimension (now job)) ⌝ }
-    ensures { λ r. ⌜ now r ≡ body (now (job .entry)) k ⌝ }
+    ensures place { λ r. ⌜ BeginsAt (job .entry) (entryOffset (now (job .entry)) k) r ⌝ }
+    ensures bytes { λ r. ⌜ now r ≡ body (now (job .entry)) k ⌝ }
 {
     contents::part_of(job, k)
 }
@@ -132,7 +135,8 @@ pub fn body_refusal(job: &[u8], k: usize) -> u64
 
 // Body's answer: the part of the job that holds body k, empty for a refusal.
 pub fn body_part(job: &[u8], k: usize) -> &[u8]
-    ensures { λ r. ⌜ now r ≡ bodyPart (now (job .entry)) k ⌝ }
+    ensures place { λ r. ⌜ BeginsAt (job .entry) (partOffset (now (job .entry)) k) r ⌝ }
+    ensures bytes { λ r. ⌜ now r ≡ bodyPart (now (job .entry)) k ⌝ }
 {
     if body_refusal(job, k) != 0 {
         return &job[0..0];

@@ -1,6 +1,6 @@
 -- What each return of the functions that look for a place says: refused, with the number that the paper's chain has there,
 -- or found.
-use mathlib.Core.Path.{_≡_, sym, ap, subst, _∙_}
+use mathlib.Core.Path.{_≡_, refl, sym, ap, subst, _∙_}
 use mathlib.Core.Bool.{true, false, not}
 use mathlib.Core.List.{List}
 use Prim.Native.Nat.{ℕ, _*_}
@@ -30,7 +30,7 @@ use Rattle.vertices.specs.Vertices.{vertexAs, VertexSize}
 use Rattle.values.specs.Columns.{facetAs}
 use Rattle.values.specs.Ask.{JobOf}
 use Rattle.values.specs.Post.{FacetFound}
-use Rattle.judge.specs.Located.{placedFacet, PlaceSize, PlaceRead, Finds, PlaceFound, Locates, Crosses}
+use Rattle.judge.specs.Located.{refusedPlace, placedFacet, PlaceSize, PlaceRead, Finds, PlaceFound, Locates, Crosses}
 use Rattle.judge.proofs.Reading.{size-kept}
 
 -- ---- the dimension
@@ -53,8 +53,23 @@ module _ (n : ℕ) (p : List ℕ) where
   unfolding placeBad
   right-form l h = rw (eq-eqb (length p) (3 * n) l, h)
 
-pub place-refused : {n : ℕ} {s p : List ℕ} {r : JobPlace} → placeBad n p ≡ true → r .refusal ≡ 13 → PlaceFound n s p r
-place-refused {s} {p} h e = record { number = e ∙ sym (refuse-here 13 (facetRefusal s (facetOf s p)) h); finds = λ z. absurd (omega arith) }
+-- ---- a refusal is its number alone
+
+pub refused-number : (r : JobPlace) (k : ℕ) → r ≡ refusedPlace k → r .refusal ≡ k
+unfolding refusedPlace
+refused-number r k e = ap (λ (x : JobPlace). x .refusal) e
+
+refused-fields : (r : JobPlace) (k : ℕ) → r ≡ refusedPlace k → r ≡ refusedPlace (r .refusal)
+refused-fields r k e = e ∙ ap refusedPlace (sym (refused-number r k e))
+
+pub place-refused : {n : ℕ} {s p : List ℕ} (r : JobPlace) → placeBad n p ≡ true → r ≡ refusedPlace 13 → PlaceFound n s p r
+place-refused {s} {p} r h e =
+    let number : r .refusal ≡ 13 = refused-number r 13 e in
+    record {
+      number = number ∙ sym (refuse-here 13 (facetRefusal s (facetOf s p)) h);
+      finds = λ z. absurd (omega arith);
+      refuses = λ h. refused-fields r 13 e;
+    }
 
 -- ---- 9, 10, or the place
 
@@ -75,37 +90,54 @@ handed-facet n {r} h = λ i. record {
   masks = maskList n (r .mask1) (r .mask2);
 }
 
-pub place-found : (n : ℕ) (s p : List ℕ) (r : JobPlace) → JobOf n s → r .n ≡ n → length p ≡ 3 * n → placeOk n (decodePlace n p) ≡ true
-    → PlaceRead n p (r .place)
-    → FacetFound s n (facetAs n (handed (r .place)) (r .place .mask1) (r .place .mask2)) (r .refusal) (r .cols)
-    → PlaceFound n s p r
-unfolding facetOf
-place-found n s p r job same l form at found =
-    let facet : facetAs n (handed (r .place)) (r .place .mask1) (r .place .mask2) ≡ facetOf s p =
-    handed-facet n (at .size) ∙ at .facet ∙ ap (λ k. decodePlace k p .facet) (job .dimension) in
-    record {
-      number =
-          found .number ∙ ap (facetRefusal s) facet ∙ sym (refuse-later 13 (facetRefusal s (facetOf s p)) (right-form n p l form));
-      finds = λ z. record {
-        opens = job .opens;
-        inDimension = same ∙ job .dimension;
-        form = subst (λ k. placeOk k (decodePlace k p) ≡ true) (job .dimension) form;
-        place = subst (λ k. PlaceRead k p (r .place)) (job .dimension) at;
-        cells = subst (λ k. FacetCells k (r .cols)) (job .dimension) (found .readable z);
-        columns =
-            ap (λ k. columnList k (r .cols)) (sym (job .dimension))
-            ∙ found .columns z ∙ ap (λ g. columns (fieldOf s) (facetVertices g)) facet;
-      };
-    }
+-- a place q of the right form, and what its facet's values say
+module _ (n : ℕ) (s p : List ℕ) (q : Placed) (job : JobOf n s) (l : length p ≡ 3 * n) (form : placeOk n (decodePlace n p) ≡ true)
+    (at : PlaceRead n p q) {number : ℕ} {cells : List ℤ} (found : FacetFound s n (facetAs n (handed q) (q .mask1) (q .mask2)) number cells) where
+  facet : facetAs n (handed q) (q .mask1) (q .mask2) ≡ facetOf s p
+  unfolding facetOf
+  facet = handed-facet n (at .size) ∙ at .facet ∙ ap (λ k. decodePlace k p .facet) (job .dimension)
+
+  facet-number : number ≡ refuseIf (placeBad n p) 13 (facetRefusal s (facetOf s p))
+  facet-number =
+      found .number ∙ ap (facetRefusal s) facet ∙ sym (refuse-later 13 (facetRefusal s (facetOf s p)) (right-form n p l form))
+
+  pub facet-refused : (r : JobPlace) → (number ≡ 0 → ⊥) → r ≡ refusedPlace number → PlaceFound n s p r
+  facet-refused r h e = record {
+    number = refused-number r number e ∙ facet-number;
+    finds = λ z. absurd (h (sym (refused-number r number e) ∙ z));
+    refuses = λ h. refused-fields r number e;
+  }
+
+  pub place-found : number ≡ 0 → PlaceFound n s p (record { refusal = 0; n = n; place = q; cols = cells })
+  unfolding facetOf
+  place-found z = record {
+    number = sym z ∙ facet-number;
+    finds = λ y. record {
+      opens = job .opens;
+      inDimension = job .dimension;
+      form = subst (λ k. placeOk k (decodePlace k p) ≡ true) (job .dimension) form;
+      place = subst (λ k. PlaceRead k p q) (job .dimension) at;
+      cells = subst (λ k. FacetCells k cells) (job .dimension) (found .readable z);
+      columns =
+          ap (λ k. columnList k cells) (sym (job .dimension))
+          ∙ found .columns z ∙ ap (λ g. columns (fieldOf s) (facetVertices g)) facet;
+    };
+    refuses = λ h. absurd (h refl);
+  }
 
 -- ---- the job's own refusals first
 
-pub not-opened : {s p : List ℕ} {r : JobPlace} → r .refusal ≡ openRefusal s → (openRefusal s ≡ 0 → ⊥) → Locates s p r
+pub not-opened : {s p : List ℕ} (r : JobPlace) {k : ℕ} → r ≡ refusedPlace k → k ≡ openRefusal s → (k ≡ 0 → ⊥) → Locates s p r
 unfolding judgeRefusal
-not-opened {s} {p} e h = record {
-  number = e ∙ sym (first-refuses (openRefusal s) (refuseIf (placeBad (dimension s) p) 13 (facetRefusal s (facetOf s p))) h);
-  finds = λ z. absurd (h (sym e ∙ z));
-}
+not-opened {s} {p} r {k} e o h =
+    let number : r .refusal ≡ openRefusal s = refused-number r k e ∙ o in
+    record {
+      number =
+          number
+          ∙ sym (first-refuses (openRefusal s) (refuseIf (placeBad (dimension s) p) 13 (facetRefusal s (facetOf s p))) (λ z. h (o ∙ z)));
+      finds = λ z. absurd (h (sym (refused-number r k e) ∙ z));
+      refuses = λ h. refused-fields r k e;
+    }
 
 pub opened-locates : {n : ℕ} {s p : List ℕ} {r : JobPlace} → openRefusal s ≡ 0 → n ≡ dimension s → PlaceFound n s p r → Locates s p r
 unfolding judgeRefusal
@@ -114,6 +146,7 @@ opened-locates {n} {s} {p} o e h = record {
       h .number ∙ ap (λ k. refuseIf (placeBad k p) 13 (facetRefusal s (facetOf s p))) e
       ∙ sym (first-passes (refuseIf (placeBad (dimension s) p) 13 (facetRefusal s (facetOf s p))) o);
   finds = h .finds;
+  refuses = h .refuses;
 }
 
 -- ---- 11
@@ -136,6 +169,7 @@ module _ {s p : List ℕ} {here : JobPlace} (at : Locates s p here) where
         at .number
         ∙ sym (first-refuses (judgeRefusal s p) (refuseIf (not (crossedIn s (facetOf s p))) 11 0) (λ z. h (at .number ∙ z)));
     finds = at .finds;
+    refuses = at .refuses;
     crossed = λ z. absurd (h z);
   }
 
@@ -145,12 +179,14 @@ module _ {s p : List ℕ} {here : JobPlace} (at : Locates s p here) where
     unfolding pointRefusal
     point-refusal = first-passes (refuseIf (not (crossedIn s (facetOf s p))) 11 0) (sym (at .number) ∙ z)
 
-    pub not-crossed : {r : JobPlace} → crossed (here .n) (columnList (here .n) (here .cols)) ≡ false → r .refusal ≡ 11 → Crosses s p r
-    not-crossed h e =
+    pub not-crossed : (r : JobPlace) → crossed (here .n) (columnList (here .n) (here .cols)) ≡ false → r ≡ refusedPlace 11 → Crosses s p r
+    not-crossed r h e =
+        let number : r .refusal ≡ 11 = refused-number r 11 e in
         let test : not (crossedIn s (facetOf s p)) ≡ true = ap not (sym (crossed-is (at .finds z)) ∙ h) in
         record {
-          number = e ∙ sym (refuse-here 11 0 test) ∙ sym point-refusal;
+          number = number ∙ sym (refuse-here 11 0 test) ∙ sym point-refusal;
           finds = λ w. absurd (omega arith);
+          refuses = λ w. refused-fields r 11 e;
           crossed = λ w. absurd (omega arith);
         }
 
@@ -160,5 +196,6 @@ module _ {s p : List ℕ} {here : JobPlace} (at : Locates s p here) where
         record {
           number = z ∙ sym (refuse-later 11 0 test) ∙ sym point-refusal;
           finds = at .finds;
+          refuses = at .refuses;
           crossed = λ w. sym (ap (λ k. crossed k (columnList k (here .cols))) (at .finds z .inDimension)) ∙ h;
         }

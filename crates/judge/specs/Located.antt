@@ -4,6 +4,8 @@ use Prim.Native.Nat.{ℕ}
 use mathlib.Core.Path.{_≡_}
 use mathlib.Core.Bool.{true}
 use mathlib.Core.List.{List}
+use lib.ListN.{replicate}
+use Rattle.exact.specs.Int.{0ℤ}
 use Rattle.exact.specs.Size.{Size}
 use Rattle.exact.specs.Crossed.{crossed}
 use Rattle.curves.specs.Grid.{Facet, facetVertices, placeOk}
@@ -15,6 +17,15 @@ use Rattle.paper.specs.Operations.{facetOf, placeBad, facetRefusal, judgeRefusa
 use Rattle.paper.specs.Answers.{placedAs, paddedPlace}
 use Rattle.paper.specs.declared.Placed.{Placed}
 use Rattle.judge.specs.declared.JobPlace.{JobPlace}
+
+-- a refusal is its number alone: every other field is 0
+unfoldable pub refusedPlace : ℕ → JobPlace
+refusedPlace k = record {
+  refusal = k;
+  n = 0;
+  place = record { x = 0ℤ; y = 0ℤ; z = 0ℤ; mask1 = 0; mask2 = 0; side = 0 };
+  cols = replicate 9 0ℤ;
+}
 
 -- the facet of a place as the code holds it
 unfoldable pub placedFacet : ℕ → Placed → Facet
@@ -45,14 +56,17 @@ pub record Finds (s p : List ℕ) (r : JobPlace) : Type 0 where
 pub record PlaceFound (n : ℕ) (s p : List ℕ) (r : JobPlace) : Type 0 where
   pub number : r .refusal ≡ refuseIf (placeBad n p) 13 (facetRefusal s (facetOf s p))
   pub finds : r .refusal ≡ 0 → Finds s p r
+  pub refuses : (r .refusal ≡ 0 → ⊥) → r ≡ refusedPlace (r .refusal)
 
 -- the same with the job's own refusals before it: Judge's
 pub record Locates (s p : List ℕ) (r : JobPlace) : Type 0 where
   pub number : r .refusal ≡ judgeRefusal s p
   pub finds : r .refusal ≡ 0 → Finds s p r
+  pub refuses : (r .refusal ≡ 0 → ⊥) → r ≡ refusedPlace (r .refusal)
 
 -- and with 11 behind it: Point's
 pub record Crosses (s p : List ℕ) (r : JobPlace) : Type 0 where
   pub number : r .refusal ≡ pointRefusal s p
   pub finds : r .refusal ≡ 0 → Finds s p r
+  pub refuses : (r .refusal ≡ 0 → ⊥) → r ≡ refusedPlace (r .refusal)
   pub crossed : r .refusal ≡ 0 → crossed (dimension s) (columnList (dimension s) (r .cols)) ≡ true

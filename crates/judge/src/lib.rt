@@ -15,9 +15,9 @@ ghost use Rattle.paper.specs.Limits.{dimensionOk};
 ghost use Rattle.paper.specs.Operations.{judged, pointed};
 ghost use Rattle.paper.specs.Answers.{judgedAs, pointedAs, paddedPoint};
 ghost use Rattle.values.specs.Ask.{JobOf};
-ghost use Rattle.judge.specs.Located.{PlaceRead, PlaceFound, Locates, Crosses};
+ghost use Rattle.judge.specs.Located.{refusedPlace, PlaceRead, PlaceFound, Locates, Crosses};
 
-// A place of a job: the refusal's number or 0, and, if it is 0, the dimension, the place and its facet's columns.
+// A place of a job: the refusal's number or 0, and, if it is 0, the dimension, the place and its facet's columns; else these are 0.
 pub struct JobPlace {
     pub refusal: u64,
     pub n: usize,
@@ -27,7 +27,7 @@ pub struct JobPlace {
 
 // Nothing but a refusal's number.
 fn refused(refusal: u64) -> JobPlace
-    ensures { λ r. ⌜ r .refusal ≡ refusal ⌝ }
+    ensures { λ r. ⌜ r ≡ refusedPlace refusal ⌝ }
 {
     let place = Placed {
         x: 0,
@@ -93,9 +93,12 @@ pub fn place_in(job: &[u8], n: usize, p: &[u8]) -> JobPlace
     };
     let found = values::facet_values(job, n, low, place.mask1, place.mask2);
     let number = found.refusal;
+    if number != 0 {
+        return refused(number);
+    }
     let cols = found.cols;
     JobPlace {
-        refusal: number,
+        refusal: 0,
         n,
         place,
         cols,

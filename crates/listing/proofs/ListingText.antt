@@ -5,13 +5,13 @@ use mathlib.Core.List.{List, _++_}
 use lib.ListN.{length}
 use borrow.Author.Tests.{lt-ltb, le-ltb}
 use Rattle.paper.specs.Job.{dimension}
-use Rattle.paper.specs.Operations.{answered, traced}
+use Rattle.paper.specs.Operations.{answered, traced, bufferAfter}
 use Rattle.paper.specs.Answers.{verdictAs}
 use Rattle.paper.specs.Listing.{refusedLine, firstLine, placeLines, listingSpace, longestJob, listingLines, listing}
 use Rattle.paper.specs.Demand3.{readPlaces}
 use Rattle.paper.specs.declared.Verdict.{Verdict}
 use Rattle.paper.specs.declared.Traced as Traced
-use Rattle.listing.specs.Listed.{listedTrace, listedAs}
+use Rattle.listing.specs.Listed.{listedTrace, listedAs, placesAfter}
 use Rattle.listing.proofs.PlacesShown.{readPlaces-length}
 
 pub listing-long : (s : List ℕ) → 2048 < length s → refusedLine 5 ≡ listing s
@@ -36,3 +36,13 @@ pub trace-lines : (s b : List ℕ) (v : Verdict) (count : ℕ) {n : ℕ} → tra
     → firstLine n (verdictAs v) count ++ placeLines s (readPlaces n count b) ≡ listingLines s (traced s listingSpace)
 unfolding listingLines
 trace-lines s b v count h e = sym (rw (h, readPlaces-length (dimension s) count b, e))
+
+-- ---- the buffer of the places
+
+pub places-kept : (s b : List ℕ) → 2048 < length s → b ≡ placesAfter s b
+unfolding placesAfter longestJob
+places-kept s b h = sym (rw (lt-ltb 2048 (length s) h))
+
+pub places-written : (s b : List ℕ) → length s ≤ 2048 → bufferAfter (traced s listingSpace) b ≡ placesAfter s b
+unfolding placesAfter longestJob
+places-written s b h = sym (rw (le-ltb 2048 (length s) h))

@@ -1,12 +1,13 @@
--- What Trace leaves in a buffer for 4,096 places, read back, is the trace; and what the lines of the listing ask of it.
+-- What Trace leaves in a buffer for 4,096 places: read back it is the trace, and no byte behind it has changed; and what the lines
+-- of the listing ask of it.
 use Prim.Native.Nat.{ℕ, _+_, _*_, _-_, _≤_}
 use mathlib.Core.Path.{_≡_, refl, sym, ap, subst, _∙_}
 use mathlib.Core.Logic.{_⊎_, inl, inr, ⊎-elim}
 use mathlib.Core.List.{List, _++_, append-assoc}
 use native.Mathlib.Omega.{arith}
 use native.Mathlib.Nat.{mul-le-mul-left, eq-or-lt-of-le}
-use lib.ListN.{length, take, drop}
-use lib.Seq.{length-take-le}
+use lib.ListN.{length, take, drop, take-append-drop}
+use lib.Seq.{length-take-le, drop-append-le}
 use Rattle.curves.specs.Grid.{Place}
 use Rattle.curves.specs.Curve.{_∈_}
 use Rattle.curves.specs.Walk.{Trace, trace}
@@ -27,7 +28,7 @@ use Rattle.paper.proofs.Refusals.{first-refuses, unless-refused, answered-inv}
 use Rattle.paper.proofs.Opens.{Opens, opens, opens-range}
 use Rattle.paper.proofs.StartTraceable.{trace-opens, start-traceable}
 use Rattle.paper.proofs.WithStart.{opens-back}
-use Rattle.paper.proofs.PlacesWritten.{listed-traceable, places-read, traced-writable}
+use Rattle.paper.proofs.PlacesWritten.{listed-traceable, places-read, traced-writable, traced-fits}
 use Rattle.listing.specs.Listed.{listedTrace, listedAs}
 use Rattle.listing.specs.Shown.{PlacesAsked}
 use Rattle.listing.proofs.PlacesShown.{readPlaces-length, all-shown}
@@ -92,6 +93,35 @@ trace-read-back s b n e d l part rest r answer written =
     let room = space-is s b n e (two-three n (omega arith) (omega arith)) l in
     rw written
     (rw room (read-back s (take (12288 * n) b) rest listingSpace (traced s listingSpace) refl r (rw room at answer)))
+
+-- ---- the buffer at exit
+
+-- what Trace leaves in the front of a buffer, with the rest as found, is what it leaves in the whole
+front-written : (s b : List ℕ) (k : ℕ)
+    → bufferAfter (traced s (spaceOf s (take k b))) (take k b) ++ drop k b ≡ bufferAfter (traced s (spaceOf s (take k b))) b
+unfolding bufferAfter
+front-written s b k = go (traced s (spaceOf s (take k b))) refl
+  where
+    go : (a : Answer (Trace Place Stop)) → traced s (spaceOf s (take k b)) ≡ a → bufferAfter a (take k b) ++ drop k b ≡ bufferAfter a b
+    go (refused j) e = take-append-drop k b
+    go (answered t) e =
+        let bytes : List ℕ = encodePlaces (t .places) in
+        let whole : drop (length bytes) (take k b) ++ drop k b ≡ drop (length bytes) b =
+        sym (drop-append-le (length bytes) (take k b) (drop k b) (traced-fits s (take k b) t e))
+        ∙ ap (drop (length bytes)) (take-append-drop k b) in
+        append-assoc bytes (drop (length bytes) (take k b)) (drop k b) ∙ ap (λ (x : List ℕ). bytes ++ x) whole
+
+pub trace-written : (s b : List ℕ) (n : ℕ) → n ≡ dimension s → DimensionRange (dimension s) → length b ≡ 36864 → (part : List ℕ)
+    → part ≡ bufferAfter (traced s (spaceOf s (take (12288 * n) b))) (take (12288 * n) b)
+    → part ++ drop (12288 * n) b ≡ bufferAfter (traced s listingSpace) b
+trace-written s b n e d l part written =
+    ap (λ (x : List ℕ). x ++ drop (12288 * n) b) written ∙ front-written s b (12288 * n)
+    ∙ ap (λ (k : ℕ). bufferAfter (traced s k) b) (space-is s b n e (two-three n (omega arith) (omega arith)) l)
+
+-- a job that does not open leaves it as found
+pub not-opened-keeps : (s b : List ℕ) (space : ℕ) {k : ℕ} → k ≡ openRefusal s → (k ≡ 0 → ⊥) → b ≡ bufferAfter (traced s space) b
+unfolding bufferAfter
+not-opened-keeps s b space e h = ap (λ (a : Answer (Trace Place Stop)). bufferAfter a b) (open-refused s space e h)
 
 -- ---- what the lines ask
 

@@ -4,10 +4,10 @@ ghost use mathlib.Core.Path.{_≡_};
 ghost use Prim.Native.Nat.{_+_, _*_, _≤_};
 ghost use lib.ListN.{length};
 ghost use Rattle.paper.specs.Listing.{placeLines, listingLines, listingSpace, listing};
-ghost use Rattle.paper.specs.Operations.{answered, traced};
+ghost use Rattle.paper.specs.Operations.{answered, traced, bufferAfter};
 ghost use Rattle.paper.specs.Demand3.{readPlaces};
 ghost use Rattle.decimals.specs.Written.{Writes};
-ghost use Rattle.listing.specs.Listed.{listedTrace, listedAs};
+ghost use Rattle.listing.specs.Listed.{listedTrace, listedAs, placesAfter};
 ghost use Rattle.listing.specs.Shown.{lineOf, LineAsked, PlacesAsked};
 use paper::Pointed;
 use paper::Traced;
@@ -54,7 +54,8 @@ fn put_places(job: &[u8], n: usize, places: &[u8], count: u64, out: &mut [u8], a
 // The trace of a job with space for 4,096 places; the places stand at the front of the bytes.
 fn trace_listed(job: &[u8], places: &mut [u8]) -> Traced
     requires { ⌜ length (now places) ≡ 36864 ⌝ }
-    ensures { λ r. ⌜ listedAs (now (job .entry)) (now (places .exit)) r ≡ traced (now (job .entry)) listingSpace ⌝ }
+    ensures answer { λ r. ⌜ listedAs (now (job .entry)) (now (places .exit)) r ≡ traced (now (job .entry)) listingSpace ⌝ }
+    ensures written { λ r. ⌜ now (places .exit) ≡ bufferAfter (traced (now (job .entry)) listingSpace) (now (places .entry)) ⌝ }
 {
     let refusal = job::open_refusal(job);
     if refusal != 0 {
@@ -78,7 +79,8 @@ fn put_trace(job: &[u8], places: &[u8], v: Verdict, count: u64, out: &mut [u8]) 
 // The whole listing at the front of a buffer: more than 2,048 bytes is refusal 5, before any other test.
 pub fn put_listing(job: &[u8], places: &mut [u8], out: &mut [u8]) -> usize
     requires { ⌜ (length (now places) ≡ 36864) × (712752 ≤ length (now out)) ⌝ }
-    ensures { λ r. ⌜ Writes 712752 (listing (now (job .entry))) 0 (now (out .entry)) (now (out .exit)) r ⌝ }
+    ensures text { λ r. ⌜ Writes 712752 (listing (now (job .entry))) 0 (now (out .entry)) (now (out .exit)) r ⌝ }
+    ensures written { λ r. ⌜ now (places .exit) ≡ placesAfter (now (job .entry)) (now (places .entry)) ⌝ }
 {
     if job.len() > 2048 {
         return text::put_refused(out, 0, 5);

@@ -10,7 +10,7 @@ use Rattle.curves.specs.Grid.{Facet, Place, turn}
 use Rattle.curves.specs.Walk.{full, Trace}
 use Rattle.curves.specs.Step.{Stop}
 use Rattle.curves.specs.Curve.{_∈_, NoDup}
-use Rattle.curves.specs.Joined.{Shares, Joined, Traceable, SideReadable, Closes, HasFacets}
+use Rattle.curves.specs.Joined.{Shares, Joined, Closes, HasFacets}
 use Rattle.curves.specs.WalkRun.{Traced}
 use Rattle.curves.specs.WalkDemand.{NeitherFull}
 use Rattle.paper.specs.Job.{dimension, decodePlace, encodePlace, withStart}
@@ -19,7 +19,7 @@ use Rattle.paper.specs.Operations.{answered, stepIn, stepped, startOf, t
 
 -- ---- the curve of the start's facet
 
--- the facet is joined to the start's
+-- the facet is joined to the start's: document 01 calls all of these the start's *curve*
 abbrev pub InCurve : List ℕ → Facet → Type 0
 InCurve s f = Joined (dimension s) (fieldOf s) (startOf s .facet) f
 
@@ -27,7 +27,7 @@ InCurve s f = Joined (dimension s) (fieldOf s) (startOf s .facet) f
 abbrev pub CurveHas : List ℕ → ℕ → Type 0
 CurveHas s k = HasFacets (dimension s) (fieldOf s) (startOf s .facet) k
 
--- the curve closes
+-- the curve closes: for each of its facets the simplices on both its sides are readable
 abbrev pub CurveCloses : List ℕ → Type 0
 CurveCloses s = Closes (dimension s) (fieldOf s) (startOf s .facet)
 
@@ -92,14 +92,7 @@ pub record Demand3 (s : List ℕ) (a b : ℕ) : Type 0 where
   pub neither-full :
       ¬ (first .verdict ≡ full) →
       ¬ (second .verdict ≡ full) →
-      NeitherFull
-      (λ (p : Place). p .facet)
-      (Traceable (dimension s) (fieldOf s))
-      (SideReadable (dimension s) (fieldOf s))
-      (Shares (dimension s) (fieldOf s))
-      (startOf s)
-      first
-      second
+      NeitherFull (λ (p : Place). p .facet) (Shares (dimension s) (fieldOf s)) (CurveCloses s) (startOf s) first second
   -- The curve has a number of facets, and it closes or it does not.
   pub counted : (k : ℕ) × CurveHas s k
   pub closes-or-not : Dec (CurveCloses s)

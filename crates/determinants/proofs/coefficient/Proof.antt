@@ -1,4 +1,4 @@
--- `facets::coefficient` meets its contract: the cells with the unit column have the sizes that `determinant` asks, and n is at most 3, so every
+-- `determinants::coefficient` meets its contract: the cells with the unit column have the sizes that `determinant` asks, and n is at most 3, so every
 -- index is below 9.
 use mathlib.Core.Path.{ap, _∙_}
 use native.Mathlib.Omega.{arith}

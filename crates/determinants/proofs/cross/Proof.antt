@@ -1,4 +1,4 @@
--- `facets::cross` meets its contract: the entries are readable, so both products and their difference fit.
+-- `determinants::cross` meets its contract: the entries are readable, so both products and their difference fit.
 use lib.Dec.{lit≤}
 use Rattle.exact.proofs.Bits.{holds, fits-mul, fits-sub, holds-mul, holds-sub}
 use Rattle.determinants.proofs.cross.Statement.{statement}

@@ -1,4 +1,4 @@
--- `facets::determinant` meets its contract: the cells are of the sizes that `cross` and `expand` ask, and the closed forms are the definition.
+-- `determinants::determinant` meets its contract: the cells are of the sizes that `cross` and `expand` ask, and the closed forms are the definition.
 use native.Mathlib.Omega.{arith}
 use Rattle.paper.proofs.Tests.{dimension-not-two}
 use Rattle.determinants.proofs.DeterminantSteps.{entry-size, top-size, cross-back-size, cross-back, returns-two, returns-three}

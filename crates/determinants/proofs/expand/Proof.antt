@@ -1,4 +1,4 @@
--- `facets::expand` meets its contract: each product is at most the minor's size, so the three together fit.
+-- `determinants::expand` meets its contract: each product is at most the minor's size, so the three together fit.
 use lib.Dec.{lit≤}
 use Rattle.exact.proofs.Bits.{holds, fits-mul, fits-sub, fits-add, holds-mul, holds-sub, holds-add}
 use Rattle.determinants.proofs.expand.Statement.{statement}

@@ -24,7 +24,7 @@ contents-right c = test-passed (c .before .contents-ok .ensures) (c .if1 .left)
 
 box-test : (c : tie.After-box-ok)
     → c .box-ok .result ≡ boxOk (c .before .before .before .before .before .args .n) (body (c .before .before .before .before .before .args .job .now) 0)
-box-test c = c .box-ok .ensures ∙ ap (boxOk (c .before .before .before .before .before .args .n)) (c .before .part-of .ensures)
+box-test c = c .box-ok .ensures ∙ ap (boxOk (c .before .before .before .before .before .args .n)) (c .before .part-of .ensures .1)
 
 box-right : (c : tie.Else2)
     → boxOk (c .before .before .before .before .before .before .args .n) (body (c .before .before .before .before .before .before .args .job .now) 0) ≡ true
@@ -43,7 +43,7 @@ startOk n b = placeOk n (decodePlace n b)
 
 start-test : (c : tie.After-place-ok)
     → c .place-ok .result ≡ startOk (c .before .before .before .before .before .before .before .before .before .before .args .n) (body (c .before .before .before .before .before .before .before .before .before .before .args .job .now) (c .before .before .before .before .before .before .before .before .before .before .args .n))
-start-test c = c .place-ok .ensures ∙ ap (startOk (c .before .before .before .before .before .before .before .before .before .before .args .n)) (c .before .part-of2 .ensures)
+start-test c = c .place-ok .ensures ∙ ap (startOk (c .before .before .before .before .before .before .before .before .before .before .args .n)) (c .before .part-of2 .ensures .1)
 
 -- ---- the needs
 
@@ -57,7 +57,7 @@ part-of-requires : tie.Need-part-of-requires
 part-of-requires c κs = contents-part _ _ 0 (contents-right c) (omega arith)
 
 box-ok-requires : tie.Need-box-ok-requires
-box-ok-requires c κs = ap length (c .part-of .ensures) ∙ contents-box-length _ _ (contents-right (c .before))
+box-ok-requires c κs = ap length (c .part-of .ensures .1) ∙ contents-box-length _ _ (contents-right (c .before))
 
 returns-2 : tie.Need-returns-2
 returns-2 c = refuse-box _ _ (contents-right (c .before .before .before)) (test-failed (box-test (c .before)) (c .if2 .taken))
@@ -77,7 +77,7 @@ place-ok-requires : tie.Need-place-ok-requires
 place-ok-requires c κs =
     let start = c .before .before .before .before .before .before .before .before .before in (
       start .pre,
-      ap length (c .part-of2 .ensures)
+      ap length (c .part-of2 .ensures .1)
           ∙ contents-start-length _ _ (contents-right (c .before .before .before .before .before .before)) (omega (arith, dimension-range _ (start .pre) .low)),
     )
 

@@ -22,7 +22,7 @@ unfolding polynomialTerms termCount
 returns c =
     let start = c .before .before .before .before in
     let l : start .args .k < dimension (start .args .job .now) = omega (arith, c .before .if1 .taken, c .before .before .opened-dimension .ensures) in
-    rw (lt-ltb _ _ l) (ap (λ (b : List ℕ). length b / 8) (c .opened-body .ensures))
+    rw (lt-ltb _ _ l) (ap (λ (b : List ℕ). length b / 8) (c .opened-body .ensures .1))
 
 returns-2 : tie.Need-returns-2
 unfolding polynomialTerms

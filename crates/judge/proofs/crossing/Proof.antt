@@ -22,7 +22,7 @@ returns-2 : tie.Need-returns-2
 returns-2 c =
     let at = c .before .before .before .before .before .before .located .ensures in
     let none = c .before .before .before .before .if1 .left in
-    not-crossed at none (sym (c .before .before .crossed .ensures) ∙ not-true (c .before .before .crossed .result) (c .before .if2 .taken)) (c .refused .ensures)
+    not-crossed at none _ (sym (c .before .before .crossed .ensures) ∙ not-true (c .before .before .crossed .result) (c .before .if2 .taken)) (c .refused .ensures)
 
 returns-3 : tie.Need-returns-3
 returns-3 c =

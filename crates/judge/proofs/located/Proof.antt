@@ -12,8 +12,7 @@ refused-requires : tie.Need-refused-requires
 refused-requires c κs = search needs
 
 returns : tie.Need-returns
-returns c =
-    not-opened (c .refused .ensures ∙ c .before .before .open-refusal .ensures) (λ z. c .before .if1 .taken (c .before .before .open-refusal .ensures ∙ z))
+returns c = not-opened _ (c .refused .ensures) (c .before .before .open-refusal .ensures) (c .before .if1 .taken)
 
 opened-dimension-requires : tie.Need-opened-dimension-requires
 opened-dimension-requires c κs = sym (c .before .open-refusal .ensures) ∙ c .if1 .left

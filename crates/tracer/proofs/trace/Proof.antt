@@ -24,20 +24,20 @@ crossing-requires c κs = search needs
 
 returns-2 : tie.Need-returns-2
 returns-2 c =
-    let k = at-start (c .before .before .crossing .ensures) (c .before .before .before .opened-body .ensures) (c .before .before .before .before .opened-dimension .ensures) in
+    let k = at-start (c .before .before .crossing .ensures) (c .before .before .before .opened-body .ensures .1) (c .before .before .before .before .opened-dimension .ensures) in
     let e = start-refused k (c .before .before .before .before .before .before .before .before .before .args .buffer .now) (c .if2 .taken) in
     (e .answer, e .buffer)
 
 walk-requires : tie.Need-walk-requires
 walk-requires c κs =
-    found-held (at-start (c .before .before .before .before .crossing .ensures) (c .before .before .before .before .before .opened-body .ensures) (c .before .before .before .before .before .before .opened-dimension .ensures)) (c .before .before .if2 .left)
+    found-held (at-start (c .before .before .before .before .crossing .ensures) (c .before .before .before .before .before .opened-body .ensures .1) (c .before .before .before .before .before .before .opened-dimension .ensures)) (c .before .before .if2 .left)
 
 same-length : tie.Need-same-length
 same-length c = search needs
 
 returns-3 : tie.Need-returns-3
 returns-3 c =
-    let k = at-start (c .before .before .before .before .before .before .before .crossing .ensures) (c .before .before .before .before .before .before .before .before .opened-body .ensures) (c .before .before .before .before .before .before .before .before .before .opened-dimension .ensures) in
+    let k = at-start (c .before .before .before .before .before .before .before .crossing .ensures) (c .before .before .before .before .before .before .before .before .opened-body .ensures .1) (c .before .before .before .before .before .before .before .before .before .opened-dimension .ensures) in
     let e = start-answered k (c .before .before .before .before .before .if2 .left) (c .before .before .walk .ensures) in
     (e .answer, e .buffer)
 

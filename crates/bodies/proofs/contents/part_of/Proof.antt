@@ -1,6 +1,7 @@
--- `part_of` meets its contract.
+-- `contents::part_of` meets its contract.
+use mathlib.Core.Path.{refl}
 use borrow.Author.Needs.{needs}
-use Rattle.bodies.proofs.EntrySteps.{part-is}
+use Rattle.bodies.proofs.EntrySteps.{part-begins, part-is}
 use Rattle.bodies.proofs.contents.part_of.Statement.{statement}
 use Rattle.bodies.proofs.contents.part_of.Tie as tie
 
@@ -23,7 +24,10 @@ part-result-end : tie.Need-part-result-end
 part-result-end c = search needs
 
 returns : tie.Need-returns
-returns c = part-is _ _ (c .before .before .entry-offset .ensures .is) (c .before .entry-length .ensures .is)
+returns c = (
+  part-begins _ _ refl (c .before .before .entry-offset .ensures .is),
+  part-is _ _ (c .before .before .entry-offset .ensures .is) (c .before .entry-length .ensures .is),
+)
 
 pub part-of-spec : {M : Type 1} → statement M
 part-of-spec =

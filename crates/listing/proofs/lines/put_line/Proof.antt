@@ -1,4 +1,4 @@
--- `put_line` meets its contract: Point does not refuse the place, so its answer is the point.
+-- `lines::put_line` meets its contract: Point does not refuse the place, so its answer is the point.
 use native.Mathlib.Omega.{arith}
 use denote.Ref.{now}
 use Rattle.decimals.proofs.WrittenParts.{writes-as}

@@ -1,4 +1,4 @@
--- `put_trace` meets its contract: the first line, then the lines of the places.
+-- `lines::put_trace` meets its contract: the first line, then the lines of the places.
 use mathlib.Core.Path.{_∙_}
 use Prim.Native.Nat.{zero-le}
 use native.Mathlib.Omega.{arith}

@@ -1,4 +1,4 @@
--- `orders::axis` meets its contract: the arrays have the table's entries (`entry-two`, `entry-three`).
+-- `table::axis` meets its contract: the arrays have the table's entries (`entry-two`, `entry-three`).
 use Prim.Native.Nat.{_<_}
 use mathlib.Core.Path.{_≡_}
 use native.Mathlib.Omega.{arith}

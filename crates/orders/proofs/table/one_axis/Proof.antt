@@ -1,4 +1,4 @@
--- `orders::one_axis` meets its contract: no bit of the three is shifted out.
+-- `table::one_axis` meets its contract: no bit of the three is shifted out.
 use borrow.Author.Needs.{needs}
 use Rattle.orders.proofs.VertexMasks.{shifted}
 use Rattle.orders.proofs.table.one_axis.Statement.{statement}

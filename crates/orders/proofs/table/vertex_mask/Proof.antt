@@ -1,4 +1,4 @@
--- `orders::vertex_mask` meets its contract. The loop's invariant: m is the mask of vertex j, and at most 4 for each axis passed.
+-- `table::vertex_mask` meets its contract. The loop's invariant: m is the mask of vertex j, and at most 4 for each axis passed.
 use Prim.Native.Nat.{_+_, _*_, _-_, _^_, _≤_}
 use mathlib.Core.Path.{_≡_, refl, sym, ap, ap₂, _∙_}
 use native.Mathlib.Omega.{arith}

@@ -1,4 +1,5 @@
 -- `walks::walk` meets its contract. The invariant: the places written so far, followed by the trace from `here`, are the whole
+-- trace, and the buffer has their bytes. The measure is the space that is left.
 use Prim.Native.Nat.{_-_}
 use native.Mathlib.Omega.{arith}
 use mathlib.Core.Path.{subst}
@@ -10,7 +11,6 @@ use Rattle.tracer.proofs.Tracing.{UnderWay, under-way, same-size, has-r
 use Rattle.tracer.proofs.walks.walk.Statement.{statement}
 use Rattle.tracer.proofs.walks.walk.Tie as tie
 
--- trace, and the buffer has their bytes. The measure is the space that is left.
 abbrev Inv-loop : tie.InvT-loop
 Inv-loop job n start buffer₀ size space here₀ count₀ buffer here count = UnderWay job n start buffer₀ buffer here count
 

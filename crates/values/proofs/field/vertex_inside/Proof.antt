@@ -13,11 +13,11 @@ opened-body-requires : tie.Need-opened-body-requires
 opened-body-requires c κs = search needs
 
 inside-requires : tie.Need-inside-requires
-inside-requires c κs = (job-dimension (c .before .before .pre), job-box (c .before .before .pre) (c .opened-body .ensures))
+inside-requires c κs = (job-dimension (c .before .before .pre), job-box (c .before .before .pre) (c .opened-body .ensures .1))
 
 returns : tie.Need-returns
 unfolding fieldOf
-returns c = c .inside .ensures ∙ ap (λ (b : List ℕ). insideFrom b 0 (vertexAs (c .before .before .before .args .n) (c .before .before .before .args .v))) (c .before .opened-body .ensures)
+returns c = c .inside .ensures ∙ ap (λ (b : List ℕ). insideFrom b 0 (vertexAs (c .before .before .before .args .n) (c .before .before .before .args .v))) (c .before .opened-body .ensures .1)
 
 pub vertex-inside-spec : {M : Type 1} → statement M
 vertex-inside-spec = tie.close (tie.spec opened-body-requires inside-requires returns)

@@ -14,11 +14,11 @@ opened-body-requires c κs =
 
 raw-sum-requires : tie.Need-raw-sum-requires
 raw-sum-requires c κs =
-    (job-polynomial (c .before .before .pre .0) 1 (lit< tt) (dimension-range _ (job-dimension (c .before .before .pre .0)) .low) (c .opened-body .ensures), job-near (c .before .before .pre .0) _ (c .before .before .pre .1))
+    (job-polynomial (c .before .before .pre .0) 1 (lit< tt) (dimension-range _ (job-dimension (c .before .before .pre .0)) .low) (c .opened-body .ensures .1), job-near (c .before .before .pre .0) _ (c .before .before .pre .1))
 
 returns : tie.Need-returns
 returns c =
-    sums-two (c .before .before .before .before .pre .0) _ (c .if1 .taken) (c .before .before .opened-body .ensures) (is-bits (c .before .raw-sum .ensures) (lit≤ tt)) refl
+    sums-two (c .before .before .before .before .pre .0) _ (c .if1 .taken) (c .before .before .opened-body .ensures .1) (is-bits (c .before .raw-sum .ensures) (lit≤ tt)) refl
 
 opened-body-requires-2 : tie.Need-opened-body-requires-2
 opened-body-requires-2 c κs =
@@ -26,13 +26,13 @@ opened-body-requires-2 c κs =
 
 raw-sum-requires-2 : tie.Need-raw-sum-requires-2
 raw-sum-requires-2 c κs = (
-  job-polynomial (c .before .before .before .before .before .pre .0) 2 (lit< tt) (omega (arith, dimension-not-two _ (job-dimension (c .before .before .before .before .before .pre .0)) (c .before .if1 .left))) (c .opened-body2 .ensures),
+  job-polynomial (c .before .before .before .before .before .pre .0) 2 (lit< tt) (omega (arith, dimension-not-two _ (job-dimension (c .before .before .before .before .before .pre .0)) (c .before .if1 .left))) (c .opened-body2 .ensures .1),
   job-near (c .before .before .before .before .before .pre .0) _ (c .before .before .before .before .before .pre .1),
 )
 
 returns-2 : tie.Need-returns-2
 returns-2 c =
-    sums-three (c .before .before .before .before .before .before .pre .0) _ (dimension-not-two _ (job-dimension (c .before .before .before .before .before .before .pre .0)) (c .before .before .if1 .left)) (c .before .before .before .before .opened-body .ensures) (c .before .opened-body2 .ensures)
+    sums-three (c .before .before .before .before .before .before .pre .0) _ (dimension-not-two _ (job-dimension (c .before .before .before .before .before .before .pre .0)) (c .before .before .if1 .left)) (c .before .before .before .before .opened-body .ensures .1) (c .before .opened-body2 .ensures .1)
     (is-bits (c .before .before .before .raw-sum .ensures) (lit≤ tt)) (is-bits (c .raw-sum2 .ensures) (lit≤ tt))
 
 pub vertex-sums-spec : {M : Type 1} → statement M
