@@ -1,4 +1,5 @@
 -- Theorems about the definitions of document 01, a file for each idea.
+pub mod TextCodes
 pub mod Cases
 pub mod Tests
 pub mod RangeSteps
