@@ -18,3 +18,4 @@ pub mod Demand3Example
 pub mod Millimetre
 pub mod Decimal
 pub mod Rounding
+pub mod CrossedPlain
