@@ -197,9 +197,15 @@ markedCases =
     ∷ points minusThreeTenths (255 ∷ 255 ∷ 0 ∷ 0 ∷ 1 ∷ 0 ∷ []) (negsuc 0 ∷ pos 0 ∷ [])
     ∷ []
 
+-- the same, built row by row
 infixr 5 _also_
-_also_ : {A B : Type 0} → A → B → A × B
-a also b = (a, b)
+data Rows : List Row → Type 0 where
+  end : Rows []
+  _also_ : {r : Row} {rs : List Row} → Holds r → Rows rs → Rows (r ∷ rs)
+
+all-hold : {rs : List Row} → Rows rs → AllHold rs
+all-hold end = tt
+all-hold (h also hs) = (h, all-hold hs)
 
 -- every marked case holds, by computation
 pub marked-cases-hold : AllHold markedCases
@@ -208,14 +214,12 @@ unfolding Int._⊕_ Int.neg Int._⊖_ Int._⊗_ Int.power
     Sign.sign Sign.orElse Sign.lexSign Sign.sameSign
     Crossed.countFrom Crossed.unitColumn Crossed.coefficient Crossed.coefficients Crossed.allHaveSign Crossed.crossed
     Crossed.remove Crossed.otherCrossed Crossed.exit
-    Grid.up Grid.down Grid.plus Grid.axesFrom Grid.axes Grid.holds Grid.vertices Grid.absent Grid.distinct Grid.under
-    Grid.isOrder Grid.facetVertices Grid.chain Grid.facetOk Grid.placeOk Grid.sameVertex Grid.sameMasks Grid.sameFacet
-    Grid.turn Grid.steps Grid.lastMask Grid.flat Grid.missed Grid.oriented Grid.added Grid.bend Grid.downs Grid.flatSide
-    Grid.bentSide Grid.incidence Grid.masksFrom Grid.sideOf Grid.placeAt Grid.placeOf Grid.exchange Grid.lastAxis
-    Grid.butLast Grid.pivotFirst Grid.pivotLast Grid.pivotAt Grid.pivot Grid.orders
-    Step.every Step.column Step.columns Step.crossedFacet Step.readableAll Step.traceable Step.onward Step.stepThrough
-    Step.step
-    Walk.afterTest Walk.afterStep Walk.traceFrom Walk.trace
+    Grid.up Grid.down Grid.plus Grid.axesFrom Grid.axes Grid.holds Grid.vertices Grid.facetVertices Grid.chain
+    Grid.facetOk Grid.placeOk Grid.sameVertex Grid.sameMasks Grid.sameFacet Grid.turn Grid.steps Grid.lastMask Grid.flat
+    Grid.missed Grid.oriented Grid.added Grid.bend Grid.downs Grid.flatSide Grid.bentSide Grid.incidence Grid.masksFrom
+    Grid.sideOf Grid.placeAt Grid.placeOf
+    Step.every Step.column Step.columns Step.crossedFacet Step.onward Step.stepThrough Step.step
+    Walk.trace
     Bytes.byte Bytes.word Bytes.doubleWord Bytes.signed Bytes.signedWord Bytes.signedDoubleWord Bytes.wordOf
     Bytes.wordBytes
     Limits.dimensionOk Limits.coordinateLimit Limits.termLimit Limits.coefficientLimit Limits.degreeLimit
@@ -227,20 +231,18 @@ unfolding Int._⊕_ Int.neg Int._⊖_ Int._⊗_ Int.power
     Values.monomial Values.termValue Values.sumFrom Values.rawSum Values.readableSum Values.valueOf Values.sums
     Values.insideFrom Values.fieldOf Values.roundSteps Values.hasAxis Values.weightSum Values.overSize
     Values.coordinateSteps Values.pointFrom Values.pointOf
-    Operations.unless Operations.firstRefusal Operations.polynomialTerms Operations.openValues Operations.opened
-    Operations.bodyRefusal Operations.partUnless Operations.bodyPart Operations.facetRefusal Operations.crossedIn
-    Operations.placeBad Operations.facetOf Operations.judgeRefusal Operations.judged Operations.pointRefusal
-    Operations.pointed Operations.stepIn Operations.stepped Operations.startOf Operations.traceRefusal
-    Operations.onSameFacet Operations.traced Operations.spaceOf Operations.verdictAndCount Operations.encodePlaces
-    Operations.bufferAfter
+    Operations.unless Operations.firstRefusal Operations.facetRefusal Operations.crossedIn Operations.placeBad
+    Operations.facetOf Operations.judgeRefusal Operations.judged Operations.pointRefusal Operations.pointed
+    Operations.stepIn Operations.startOf Operations.traceRefusal Operations.onSameFacet Operations.traced
     Listing.decimalFrom Listing.decimal Listing.signedDecimal Listing.blankNumbers Listing.numberLine Listing.verdictWord
-    Listing.refusedLine Listing.firstLine Listing.placeNumbers Listing.placeLine Listing.placeLines Listing.listingSpace
-    Listing.longestJob Listing.listingLines Listing.listing
+    Listing.firstLine Listing.placeNumbers Listing.placeLine Listing.placeLines Listing.listingSpace Listing.longestJob
+    Listing.listingLines Listing.listing
     lines
-    Count.ones Count.onesIn
+    Count.ones
     markedCases placesA placesC linesA oneTermJob unitBox unitStart caseA caseC caseF caseG caseH caseI caseJ
     minusThreeTenths
 marked-cases-hold =
+    all-hold {rs = markedCases} (
     -- A
     (refl, refl, refl) also refl also refl also refl also refl also refl also refl also refl
     -- B
@@ -250,4 +252,5 @@ marked-cases-hold =
     -- F, G, H, I and J
     also refl also refl also refl also refl also refl also refl
     -- the lines of A, and the wrong turn of rounding
-    also refl also refl also tt
+    also refl also refl also end
+    )
