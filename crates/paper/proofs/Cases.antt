@@ -1,5 +1,5 @@
--- The marked cases A to J of document 01, as rows of a table under one theorem: each row holds by computation from the
--- definitions.
+-- The marked cases A to J of document 01 and its wrong turn of rounding, as rows of a table under one theorem: each row holds
+-- by computation from the definitions.
 use Prim.Native.Nat.{ℕ, suc}
 use Prim.Native.String.{String}
 use mathlib.Core.Path.{_≡_, refl}

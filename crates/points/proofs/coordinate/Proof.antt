@@ -1,4 +1,4 @@
--- `facets::coordinate` meets its contract: the share lies from 0 to 1, so the rounding leaf may be asked, and what it gives is the definition's.
+-- `points::coordinate` meets its contract: the share lies from 0 to 1, so the rounding leaf may be asked, and what it gives is the definition's.
 use Rattle.points.proofs.Rounded.{asks-num, asks-d, asks-round, fits-steps, fits-low, fits-coordinate, coordinate-is}
 use Rattle.points.proofs.coordinate.Statement.{statement}
 use Rattle.points.proofs.coordinate.Tie as tie

@@ -1,4 +1,4 @@
--- `facets::point` meets its contract: on each axis the sum of weights is a share of D, so `coordinate` may be asked, and its results are the
+-- `points::point` meets its contract: on each axis the sum of weights is a share of D, so `coordinate` may be asked, and its results are the
 -- definition's coordinates.
 use native.Mathlib.Omega.{arith}
 use Rattle.paper.proofs.Tests.{dimension-not-two}

@@ -1,4 +1,4 @@
--- `facets::size_of` meets its contract: a number of that size, or its opposite, fits.
+-- `points::size_of` meets its contract: a number of that size, or its opposite, fits.
 use Rattle.points.proofs.AbsoluteValue.{fits-opposite, cast-opposite, natAbs-opposite, cast-itself}
 use borrow.Author.Needs.{needs}
 use Rattle.points.proofs.size_of.Statement.{statement}

@@ -1,4 +1,4 @@
--- `facets::weight` meets its contract: the shifted mask is odd exactly if the mask has the axis.
+-- `points::weight` meets its contract: the shifted mask is odd exactly if the mask has the axis.
 use mathlib.Core.Path.{ap, _∙_}
 use native.Mathlib.Omega.{arith}
 use lib.Dec.{lit≤}

@@ -1,4 +1,4 @@
--- `facets::weight_sum` meets its contract: one weight in dimension 2, two in dimension 3, and their sum fits.
+-- `points::weight_sum` meets its contract: one weight in dimension 2, two in dimension 3, and their sum fits.
 use mathlib.Core.Path.{_≡_, sym, ap, _∙_, subst}
 use native.Mathlib.Omega.{arith}
 use lib.Dec.{lit≤}
