@@ -1,5 +1,5 @@
--- A coordinate of a point is rounded down: 1024 times the lowest vertex's coordinate, plus 1024 times the sum of weights, is
--- low + num / d in steps of 1/1024, and `coordinateSteps` is its floor, below 0 too.
+-- A coordinate of a point is rounded down, the whole of it: `coordinateSteps low num d` is the floor of 1024 · (low + num / d),
+-- for a number of steps under 0 too.
 use Prim.Native.Nat.{ℕ, suc, zero, _+_, _*_, _/_, _%_, _<_}
 use mathlib.Core.Path.{_≡_, refl, sym, ap, _∙_, subst}
 use mathlib.Core.Bool.{true}
@@ -48,7 +48,7 @@ round-floor (negsuc a) den h = minus-floor a den (a / den) (a % den) (div-add-mo
 floor-add : (k a r : ℤ) (d : ℕ) → Floor a (pos d) r → Floor (k ⊗ pos d ⊕ a) (pos d) (k ⊕ r)
 floor-add k a r d = rw (split k, split a, split r) (simp linear (λ h. (omega (arith, h .0), omega (arith, h .1))))
 
--- numerator and denominator of opposite signs
+-- numerator and denominator with the opposite sign: the same fraction
 floor-opposite : (a z : ℤ) (d : ℕ) → Floor a (pos (suc d)) z → Floor (neg a) (negsuc d) z
 floor-opposite a z d = rw (split a, split z) (simp linear (λ h. (omega (arith, h .0), omega (arith, h .1))))
 
@@ -64,6 +64,7 @@ size-floor low num d h =
     subst (λ a. Floor a (pos (natAbs d)) (coordinateSteps low num d)) same
     (floor-add (u ⊗ low) (u ⊗ overSize num d) (roundSteps (u ⊗ overSize num d) (natAbs d)) (natAbs d) (round-floor (u ⊗ overSize num d) (natAbs d) h))
 
+-- 1024 · (low · d + num) for a d under 0
 both-opposite : (u low num : ℤ) (d : ℕ) → neg (u ⊗ (low ⊗ pos (suc d) ⊕ neg num)) ≡ u ⊗ (low ⊗ negsuc d ⊕ num)
 both-opposite u low num d = rw (split u, split low, split num) (simp linear (omega arith))
 
@@ -78,6 +79,7 @@ coordinate-floor low num (negsuc d) h =
 
 -- ---- there is one floor
 
+-- of two multiples of d, the smaller is that of the smaller number
 multiple-below : (x y : ℤ) (d : ℕ) → x ⊗ pos d <ℤ y ⊗ pos d → x <ℤ y
 multiple-below x y d =
     rw (split x, split y) (simp linear (λ h. lt-of-mul-lt-mul-right d {m = up x + down y} {n = up y + down x} (omega (arith, h))))
@@ -128,7 +130,7 @@ pub point-floor :
 unfolding crossedFacet pointOf
 point-floor n φ f x k h =
     let cs : List Column = columns φ (facetVertices f) in
-    let whole : determinant n cs ≢ 0ℤ = λ e. crossed-nonzero n cs x (ap sign e ∙ sign-zero) in
+    let nonzero : determinant n cs ≢ 0ℤ = λ e. crossed-nonzero n cs x (ap sign e ∙ sign-zero) in
     subst (Floor (pos stepsPerUnit ⊗ (getD (f .low) k 0ℤ ⊗ determinant n cs ⊕ weightSum n cs 1 (f .masks) k)) (determinant n cs))
     (sym (coordinate-at n cs (f .masks) 0 k (f .low) k h (omega arith)))
-    (coordinate-floor (getD (f .low) k 0ℤ) (weightSum n cs 1 (f .masks) k) (determinant n cs) whole)
+    (coordinate-floor (getD (f .low) k 0ℤ) (weightSum n cs 1 (f .masks) k) (determinant n cs) nonzero)
