@@ -1,6 +1,7 @@
--- The marked cases A to J of document 01, as rows of a table under one theorem: each row holds by computation from the
--- definitions.
+-- The marked cases A to J of document 01 and its wrong turn of rounding, as rows of a table under one theorem: each row holds
+-- by computation from the definitions.
 use Prim.Native.Nat.{ℕ, suc}
+use Prim.Native.String.{String}
 use mathlib.Core.Path.{_≡_, refl}
 use mathlib.Core.Bool.{Bool, true, false}
 use mathlib.Core.List.{List, [], _∷_, _++_, map}
@@ -25,6 +26,9 @@ use Rattle.paper.specs.Job.{openRefusal, entryOffset, dimension, withSta
 use Rattle.paper.specs.Values as Values
 use Rattle.paper.specs.Operations as Operations
 use Rattle.paper.specs.Operations.{Answer, refused, answered, judged, pointed, traced}
+use Rattle.paper.specs.Listing as Listing
+use Rattle.paper.specs.Listing.{listing}
+use Rattle.paper.proofs.TextCodes.{lines}
 
 -- ---- the jobs
 
@@ -77,6 +81,15 @@ caseI =
 unfoldable pub caseJ : List ℕ
 caseJ = oneTermJob (1 ∷ 0 ∷ 1 ∷ 0 ∷ 0 ∷ 0 ∷ 1 ∷ 0 ∷ []) (1 ∷ 0 ∷ 0 ∷ 0 ∷ 1 ∷ 0 ∷ 0 ∷ 0 ∷ []) unitStart
 
+-- the wrong turn of rounding: 10,240·x + 3, box − 1 to 1 on both axes, start − 1 0, mask 1, side 0; the polynomial is 0 at
+-- x = − 3 / 10,240, which is − 0.3 steps
+unfoldable pub minusThreeTenths : List ℕ
+minusThreeTenths =
+    1 ∷ 2 ∷ 3 ∷ 0 ∷ 16 ∷ 0 ∷ 8 ∷ 0 ∷ 24 ∷ 0 ∷ 16 ∷ 0
+    ∷ 40 ∷ 0 ∷ 6 ∷ 0 ∷ 255 ∷ 255 ∷ 1 ∷ 0 ∷ 255 ∷ 255 ∷ 1 ∷ 0
+    ∷ 3 ∷ 0 ∷ 0 ∷ 0 ∷ 0 ∷ 0 ∷ 0 ∷ 0 ∷ 0 ∷ 40 ∷ 0 ∷ 0
+    ∷ 1 ∷ 0 ∷ 0 ∷ 0 ∷ 255 ∷ 255 ∷ 0 ∷ 0 ∷ 1 ∷ 0 ∷ []
+
 -- ---- the rows
 
 pub data Row : Type 0 where
@@ -90,6 +103,8 @@ pub data Row : Type 0 where
   points : List ℕ → List ℕ → List ℤ → Row
   -- Trace's verdict and places, with space for so many
   traces : List ℕ → ℕ → Verdict Stop → List Place → Row
+  -- the lines that the program prints for a job
+  prints : List ℕ → List String → Row
 
 -- what a row says
 abbrev pub Holds : Row → Type 0
@@ -99,6 +114,7 @@ Holds (refuses s k) = openRefusal s ≡ k
 Holds (judges s p a) = judged s p ≡ a
 Holds (points s p v) = pointed s p ≡ answered v
 Holds (traces s k v ps) = traced s k ≡ answered record { verdict = v; places = ps }
+Holds (prints s ls) = listing s ≡ lines ls
 
 abbrev pub AllHold : List Row → Type 0
 AllHold [] = Unit {0}
@@ -124,6 +140,18 @@ placesC =
     ∷ place (pos 0 ∷ pos 0 ∷ pos 0 ∷ []) (1 ∷ 7 ∷ []) 1
     ∷ place (pos 0 ∷ pos 0 ∷ pos 0 ∷ []) (5 ∷ 7 ∷ []) 1
     ∷ place (pos 0 ∷ pos 0 ∷ pos 1 ∷ []) (1 ∷ 3 ∷ []) 0
+    ∷ []
+
+-- what the program prints for A
+unfoldable pub linesA : List String
+linesA =
+    "2 loop 6"
+    ∷ "0 0 1 512 0"
+    ∷ "0 0 3 256 256"
+    ∷ "0 0 2 0 512"
+    ∷ "-1 0 1 -512 0"
+    ∷ "-1 -1 3 -256 -256"
+    ∷ "0 -1 2 0 -512"
     ∷ []
 
 unfoldable pub markedCases : List Row
@@ -163,10 +191,66 @@ markedCases =
     ∷ judges caseI (17 ∷ 0 ∷ 0 ∷ 0 ∷ 2 ∷ 0 ∷ []) (refused 10)
     -- J: low end equal to high is 6
     ∷ refuses caseJ 6
+    -- A: it prints these seven lines
+    ∷ prints caseA linesA
+    -- the wrong turn: − 0.3 steps are rounded down to − 1, and not to 0
+    ∷ points minusThreeTenths (255 ∷ 255 ∷ 0 ∷ 0 ∷ 1 ∷ 0 ∷ []) (negsuc 0 ∷ pos 0 ∷ [])
     ∷ []
 
--- every marked case holds
+-- the same, built row by row
+infixr 5 _also_
+data Rows : List Row → Type 0 where
+  end : Rows []
+  _also_ : {r : Row} {rs : List Row} → Holds r → Rows rs → Rows (r ∷ rs)
+
+all-hold : {rs : List Row} → Rows rs → AllHold rs
+all-hold end = tt
+all-hold (h also hs) = (h, all-hold hs)
+
+-- every marked case holds, by computation
 pub marked-cases-hold : AllHold markedCases
-unfolding Int._⊕_ Int.neg Int._⊖_ Int._⊗_ Int.power Det.laplace Det.ifNone Det.det Det.rowsFrom Det.determinant Sign.sign Sign.orElse Sign.lexSign Sign.sameSign Crossed.countFrom Crossed.unitColumn Crossed.coefficient Crossed.coefficients Crossed.allHaveSign Crossed.crossed Crossed.remove Crossed.otherCrossed Crossed.exit Grid.up Grid.down Grid.plus Grid.axesFrom Grid.axes Grid.holds Grid.vertices Grid.absent Grid.distinct Grid.under Grid.isOrder Grid.facetVertices Grid.chain Grid.facetOk Grid.placeOk Grid.sameVertex Grid.sameMasks Grid.sameFacet Grid.turn Grid.steps Grid.lastMask Grid.flat Grid.missed Grid.oriented Grid.added Grid.bend Grid.downs Grid.flatSide Grid.bentSide Grid.incidence Grid.masksFrom Grid.sideOf Grid.placeAt Grid.placeOf Grid.exchange Grid.lastAxis Grid.butLast Grid.pivotFirst Grid.pivotLast Grid.pivotAt Grid.pivot Grid.orders Step.every Step.column Step.columns Step.crossedFacet Step.readableAll Step.traceable Step.onward Step.stepThrough Step.step Walk.afterTest Walk.afterStep Walk.traceFrom Walk.trace Bytes.byte Bytes.word Bytes.doubleWord Bytes.signed Bytes.signedWord Bytes.signedDoubleWord Bytes.wordOf Bytes.wordBytes Limits.dimensionOk Limits.coordinateLimit Limits.termLimit Limits.coefficientLimit Limits.degreeLimit Limits.readableLimit Limits.stepsPerUnit Job.dimension Job.entryOffset Job.entryLength Job.contentsEnd Job.polynomialLengthOk Job.lengthOk Job.entriesOk Job.contentsOk Job.body Job.lowEnd Job.highEnd Job.axisOk Job.allFrom Job.boxOk Job.termCount Job.coefficientOf Job.exponentOf Job.exponentsZero Job.degree Job.termOk Job.exponentWeight Job.rises Job.polynomialOk Job.decodePlace Job.vertexBytes Job.encodePlace Job.withStart Job.refuseIf Job.openRefusal Values.monomial Values.termValue Values.sumFrom Values.rawSum Values.readableSum Values.valueOf Values.sums Values.insideFrom Values.fieldOf Values.roundSteps Values.hasAxis Values.weightSum Values.overSize Values.coordinateSteps Values.pointFrom Values.pointOf Operations.unless Operations.firstRefusal Operations.polynomialTerms Operations.openValues Operations.opened Operations.bodyRefusal Operations.partUnless Operations.bodyPart Operations.facetRefusal Operations.crossedIn Operations.placeBad Operations.facetOf Operations.judgeRefusal Operations.judged Operations.pointRefusal Operations.pointed Operations.stepIn Operations.stepped Operations.startOf Operations.traceRefusal Operations.onSameFacet Operations.traced Operations.spaceOf Operations.verdictAndCount Operations.encodePlaces Operations.bufferAfter Count.ones Count.onesIn markedCases placesA placesC oneTermJob unitBox unitStart caseA caseC caseF caseG caseH caseI caseJ
+unfolding Int._⊕_ Int.neg Int._⊖_ Int._⊗_ Int.power
+    Det.laplace Det.ifNone Det.det Det.rowsFrom Det.determinant
+    Sign.sign Sign.orElse Sign.lexSign Sign.sameSign
+    Crossed.countFrom Crossed.unitColumn Crossed.coefficient Crossed.coefficients Crossed.allHaveSign Crossed.crossed
+    Crossed.remove Crossed.otherCrossed Crossed.exit
+    Grid.up Grid.down Grid.plus Grid.axesFrom Grid.axes Grid.holds Grid.vertices Grid.facetVertices Grid.chain
+    Grid.facetOk Grid.placeOk Grid.sameVertex Grid.sameMasks Grid.sameFacet Grid.turn Grid.steps Grid.lastMask Grid.flat
+    Grid.missed Grid.oriented Grid.added Grid.bend Grid.downs Grid.flatSide Grid.bentSide Grid.incidence Grid.masksFrom
+    Grid.sideOf Grid.placeAt Grid.placeOf
+    Step.every Step.column Step.columns Step.crossedFacet Step.onward Step.stepThrough Step.step
+    Walk.trace
+    Bytes.byte Bytes.word Bytes.doubleWord Bytes.signed Bytes.signedWord Bytes.signedDoubleWord Bytes.wordOf
+    Bytes.wordBytes
+    Limits.dimensionOk Limits.coordinateLimit Limits.termLimit Limits.coefficientLimit Limits.degreeLimit
+    Limits.readableLimit Limits.stepsPerUnit
+    Job.dimension Job.entryOffset Job.entryLength Job.contentsEnd Job.polynomialLengthOk Job.lengthOk Job.entriesOk
+    Job.contentsOk Job.body Job.lowEnd Job.highEnd Job.axisOk Job.allFrom Job.boxOk Job.termCount Job.coefficientOf
+    Job.exponentOf Job.exponentsZero Job.degree Job.termOk Job.exponentWeight Job.rises Job.polynomialOk Job.decodePlace
+    Job.vertexBytes Job.encodePlace Job.withStart Job.refuseIf Job.openRefusal
+    Values.monomial Values.termValue Values.sumFrom Values.rawSum Values.readableSum Values.valueOf Values.sums
+    Values.insideFrom Values.fieldOf Values.roundSteps Values.hasAxis Values.weightSum Values.overSize
+    Values.coordinateSteps Values.pointFrom Values.pointOf
+    Operations.unless Operations.firstRefusal Operations.facetRefusal Operations.crossedIn Operations.placeBad
+    Operations.facetOf Operations.judgeRefusal Operations.judged Operations.pointRefusal Operations.pointed
+    Operations.stepIn Operations.startOf Operations.traceRefusal Operations.onSameFacet Operations.traced
+    Listing.decimalFrom Listing.decimal Listing.signedDecimal Listing.blankNumbers Listing.numberLine Listing.verdictWord
+    Listing.firstLine Listing.placeNumbers Listing.placeLine Listing.placeLines Listing.listingSpace Listing.longestJob
+    Listing.listingLines Listing.listing
+    lines
+    Count.ones
+    markedCases placesA placesC linesA oneTermJob unitBox unitStart caseA caseC caseF caseG caseH caseI caseJ
+    minusThreeTenths
 marked-cases-hold =
-    ((refl, refl, refl), (refl, (refl, (refl, (refl, (refl, (refl, (refl, (refl, (refl, (refl, (refl, (refl, (refl, (refl, (refl, (refl, (refl, (refl, (refl, (refl, (refl, (refl, (refl, tt))))))))))))))))))))))))
+    all-hold {rs = markedCases} (
+    -- A
+    (refl, refl, refl) also refl also refl also refl also refl also refl also refl also refl
+    -- B
+    also refl also refl also refl
+    -- C, D and E
+    also refl also refl also refl also refl also refl also refl also refl
+    -- F, G, H, I and J
+    also refl also refl also refl also refl also refl also refl
+    -- the lines of A, and the wrong turn of rounding
+    also refl also refl also end
+    )

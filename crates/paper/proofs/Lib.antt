@@ -1,4 +1,5 @@
 -- Theorems about the definitions of document 01, a file for each idea.
+pub mod TextCodes
 pub mod Cases
 pub mod Tests
 pub mod RangeSteps
@@ -17,3 +18,4 @@ pub mod Demand3Example
 pub mod Millimetre
 pub mod Decimal
 pub mod Rounding
+pub mod CrossedPlain
