@@ -1,4 +1,4 @@
--- The determinants of one, two and three rows in their usual closed forms, for any rows and columns.
+-- The determinants of one and two rows in their usual closed forms, and of three rows by those of two, for any rows and columns.
 use mathlib.Core.Path.{_≡_, refl}
 use mathlib.Core.List.{[], _∷_}
 use lib.IntN.{ℤ}
@@ -20,9 +20,10 @@ module _ {C : Type 0} where
   unfolding det laplace
   det-two f g a b = simp (ring, ifNone-nil C, one-mul)
 
+  -- along the first row
   pub det-three :
       (f g h : C → ℤ) (a b c : C)
       → det (f ∷ g ∷ h ∷ []) (a ∷ b ∷ c ∷ [])
-      ≡ f a ⊗ (g b ⊗ h c ⊖ g c ⊗ h b) ⊖ f b ⊗ (g a ⊗ h c ⊖ g c ⊗ h a) ⊕ f c ⊗ (g a ⊗ h b ⊖ g b ⊗ h a)
+      ≡ f a ⊗ det (g ∷ h ∷ []) (b ∷ c ∷ []) ⊖ f b ⊗ det (g ∷ h ∷ []) (a ∷ c ∷ []) ⊕ f c ⊗ det (g ∷ h ∷ []) (a ∷ b ∷ [])
   unfolding det laplace
   det-three f g h a b c = simp (ring, ifNone-nil C, one-mul)
