@@ -1,21 +1,22 @@
--- The masks of a row's facet are differences of vertex masks (`masks-two`, `masks-three`), and no difference falls below 0.
+-- The masks of a row's facet are differences of vertex masks (`masks-are`), no difference falls below 0 (`kept-rises`), and there is none
+-- from the n-th on (`no-mask`).
 use Prim.Native.Nat.{ℕ, suc, zero, _+_, _-_, _≤_, _<_}
-use mathlib.Core.Path.{_≡_, refl, sym, ap, _∙_}
-use mathlib.Core.Bool.{Bool, true, false, cond, _&&_}
+use mathlib.Core.Path.{_≡_, refl}
+use mathlib.Core.Bool.{Bool, true, false, cond}
 use mathlib.Core.List.{List, [], _∷_}
 use native.Mathlib.Omega.{arith}
-use lib.ListN.{length}
-use lib.Dec.{eqb, ltb}
-use borrow.Author.Tests.{eqb-true, lt-ltb, le-ltb}
+use lib.ListN.{length, take}
+use lib.Dec.{ltb}
+use borrow.Author.Tests.{lt-ltb, le-ltb}
 use Rattle.exact.specs.Crossed.{remove}
-use Rattle.curves.specs.Grid.{placeAt, masksFrom, lastMask, sameMasks, orders}
-use Rattle.curves.proofs.OrderTests.{and-left, and-right}
+use Rattle.curves.specs.Grid.{placeAt, masksFrom, sameMasks, orders}
 use Rattle.curves.proofs.SameFacet.{sameMasks-sound}
-use Rattle.paper.specs.Answers.{padded}
+use Rattle.paper.specs.Job.{allFrom}
 use Rattle.orders.specs.Table.{orderAt, vertexMask, InTable}
-use Rattle.orders.specs.Shapes.{masksAt, lastOf, kept, facetMask}
+use Rattle.orders.specs.Facets.{masksAt, kept, facetMask}
 use Rattle.orders.proofs.Tested.{passes}
-use Rattle.orders.proofs.VertexMasks.{vertexMask-rises}
+use Rattle.orders.proofs.Rows.{row-length}
+use Rattle.orders.proofs.VertexMasks.{vertexMask-rises, vertexMask-none}
 
 -- ---- the vertices of a facet
 
@@ -47,47 +48,21 @@ kept-rises o out i l =
 
 -- ---- the masks
 
-last : ℕ → ℕ → ℕ → ℕ
-last n row out = cond (eqb n 2) (facetMask n row out 1) (facetMask n row out 2)
-
-second : ℕ → ℕ → ℕ → ℕ
-second n row out = cond (eqb n 2) 0 (facetMask n row out 2)
-
 rightMasks : ℕ → ℕ → ℕ → Bool
 rightMasks n row out =
-    sameMasks (facetMask n row out 1 ∷ second n row out ∷ []) (padded 0 2 (masksAt n row out)) && eqb (last n row out) (lastOf n row out)
+    sameMasks (masksAt n row out) (take (n - 1) (facetMask n row out 1 ∷ facetMask n row out 2 ∷ facetMask n row out 3 ∷ []))
 
 module _ (n row out : ℕ) (h : InTable n row) (l : out ≤ n) where
-  right-masks : rightMasks n row out ≡ true
-  unfolding rightMasks last second facetMask kept vertexMask masksAt lastOf orderAt orders padded placeAt masksFrom remove sameMasks lastMask
-  right-masks = passes rightMasks refl refl n row out h l
-
-  masks-are : facetMask n row out 1 ∷ second n row out ∷ [] ≡ padded 0 2 (masksAt n row out)
-  unfolding rightMasks
+  pub masks-are : masksAt n row out ≡ take (n - 1) (facetMask n row out 1 ∷ facetMask n row out 2 ∷ facetMask n row out 3 ∷ [])
+  unfolding rightMasks facetMask kept vertexMask masksAt orderAt orders placeAt masksFrom remove sameMasks allFrom
   masks-are =
-      sameMasks-sound (facetMask n row out 1 ∷ second n row out ∷ []) (padded 0 2 (masksAt n row out))
-      (and-left (sameMasks (facetMask n row out 1 ∷ second n row out ∷ []) (padded 0 2 (masksAt n row out)))
-      (eqb (last n row out) (lastOf n row out)) right-masks)
+      sameMasks-sound (masksAt n row out) (take (n - 1) (facetMask n row out 1 ∷ facetMask n row out 2 ∷ facetMask n row out 3 ∷ []))
+      (passes rightMasks refl refl refl n row out h l)
 
-  last-is : last n row out ≡ lastOf n row out
-  unfolding rightMasks
-  last-is =
-      eqb-true (last n row out) (lastOf n row out)
-      (and-right (sameMasks (facetMask n row out 1 ∷ second n row out ∷ []) (padded 0 2 (masksAt n row out)))
-      (eqb (last n row out) (lastOf n row out)) right-masks)
-
-  pub masks-two : n ≡ 2 → facetMask n row out 1 ∷ 0 ∷ [] ≡ padded 0 2 (masksAt n row out)
-  unfolding second
-  masks-two e = ap (λ m. facetMask n row out 1 ∷ cond (eqb m 2) 0 (facetMask n row out 2) ∷ []) (sym e) ∙ masks-are
-
-  pub last-two : n ≡ 2 → facetMask n row out 1 ≡ lastOf n row out
-  unfolding last
-  last-two e = ap (λ m. cond (eqb m 2) (facetMask n row out 1) (facetMask n row out 2)) (sym e) ∙ last-is
-
-  pub masks-three : n ≡ 3 → facetMask n row out 1 ∷ facetMask n row out 2 ∷ [] ≡ padded 0 2 (masksAt n row out)
-  unfolding second
-  masks-three e = ap (λ m. facetMask n row out 1 ∷ cond (eqb m 2) 0 (facetMask n row out 2) ∷ []) (sym e) ∙ masks-are
-
-  pub last-three : n ≡ 3 → facetMask n row out 2 ≡ lastOf n row out
-  unfolding last
-  last-three e = ap (λ m. cond (eqb m 2) (facetMask n row out 1) (facetMask n row out 2)) (sym e) ∙ last-is
+  pub no-mask : (i : ℕ) → n ≤ i → 0 ≡ facetMask n row out i
+  unfolding facetMask
+  no-mask i u =
+      omega (
+        arith,
+        vertexMask-none (orderAt n row) (kept out i) (omega (arith, row-length n row h, kept-behind out i (omega arith))),
+      )

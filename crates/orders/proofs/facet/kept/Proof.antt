@@ -1,10 +1,10 @@
--- `shapes::kept` meets its contract.
+-- `facet::kept` meets its contract.
 use mathlib.Core.Path.{sym, _∙_}
 use native.Mathlib.Numerals.{add-one}
 use borrow.Author.Needs.{needs}
 use Rattle.orders.proofs.FacetMasks.{kept-before, kept-behind}
-use Rattle.orders.proofs.shapes.kept.Statement.{statement}
-use Rattle.orders.proofs.shapes.kept.Tie as tie
+use Rattle.orders.proofs.facet.kept.Statement.{statement}
+use Rattle.orders.proofs.facet.kept.Tie as tie
 
 returns : tie.Need-returns
 returns c = sym (kept-before (c .before .args .out) (c .before .args .i) (c .if1 .taken))
