@@ -48,7 +48,7 @@ pub place-is :
     → coordinates (r .low) ≡ lowOver (coordinates corner) (orderAt n row) out
     → r .mask1 ≡ facetMask n row out 1 → r .mask2 ≡ facetMask n row out 2 → r .mask3 ≡ facetMask n row out 3
     → r .side ≡ sideAt n row out
-    → PlaceIs n corner row out r
+    → PlaceIs n corner row out (placeAt (vertexAs n corner) (orderAt n row) out) r
 unfolding placeAs facetAs masksAs masksAt sideAt
 place-is n corner row out r h l e e1 e2 e3 s =
     record {

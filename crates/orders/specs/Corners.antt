@@ -3,13 +3,12 @@ use Prim.Native.Nat.{ℕ, zero, suc, _-_, _^_}
 use mathlib.Core.Path.{_≡_}
 use mathlib.Core.List.{List, [], _∷_}
 use lib.IntN.{ℤ}
-use lib.ListN.{drop}
 use Rattle.exact.specs.Int.{_⊕_}
-use Rattle.curves.specs.Grid.{up, down, placeAt, turn}
+use Rattle.curves.specs.Grid.{Place, up, down}
 use Rattle.curves.specs.Grid as Grid
 use Rattle.places.specs.declared.Vertex.{Vertex}
 use Rattle.places.specs.declared.HeldPlace.{HeldPlace}
-use Rattle.places.specs.Held.{vertexAs, placeAs}
+use Rattle.places.specs.Held.{placeAs}
 use Rattle.orders.specs.Table.{orderAt}
 
 -- the size of a coordinate up to which one more or less stays inside 64 bits
@@ -38,7 +37,7 @@ lowOver c [] i = c
 lowOver c (a ∷ o) zero = up a c
 lowOver c (a ∷ o) (suc i) = c
 
--- r is the place of the simplex with a corner and a row's order without vertex `out`, its lowest vertex in all four coordinates
-pub record PlaceIs (n : ℕ) (corner : Vertex) (row out : ℕ) (r : HeldPlace) : Type 0 where
-  pub is : placeAs n r ≡ placeAt (vertexAs n corner) (orderAt n row) out
+-- r is the place p of the facet without vertex `out` of the simplex with a corner and a row's order, its lowest vertex in all four coordinates
+pub record PlaceIs (n : ℕ) (corner : Vertex) (row out : ℕ) (p : Place) (r : HeldPlace) : Type 0 where
+  pub is : placeAs n r ≡ p
   pub low : coordinates (r .low) ≡ lowOver (coordinates corner) (orderAt n row) out

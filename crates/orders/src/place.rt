@@ -3,7 +3,8 @@
 ghost use mathlib.Core.Path.{_≡_};
 ghost use Prim.Native.Nat.{_≤_, _<_};
 ghost use Rattle.exact.specs.Size.{Size};
-ghost use Rattle.places.specs.Held.{VertexSize};
+ghost use Rattle.curves.specs.Grid.{placeAt};
+ghost use Rattle.places.specs.Held.{vertexAs, VertexSize};
 ghost use Rattle.orders.specs.Table.{InTable, orderAt};
 ghost use Rattle.orders.specs.Corners.{moveLimit, coordinates, addOn, lowOver, PlaceIs};
 use crate::facet;
@@ -47,7 +48,7 @@ pub fn lowest(n: usize, corner: Vertex, row: usize, out: usize) -> Vertex
 // The place whose side is the simplex with a corner and a row's order, and whose facet leaves out vertex `out`.
 pub fn place_at(n: usize, corner: Vertex, row: usize, out: usize) -> HeldPlace
     requires { ⌜ (InTable n row) × ((out ≤ n) × (VertexSize moveLimit corner)) ⌝ }
-    ensures { λ r. ⌜ PlaceIs n corner row out r ⌝ }
+    ensures { λ r. ⌜ PlaceIs n corner row out (placeAt (vertexAs n corner) (orderAt n row) out) r ⌝ }
 {
     HeldPlace {
         low: lowest(n, corner, row, out),
