@@ -77,7 +77,7 @@ module _ {C : Type 0} where
         rw (regroup (suc (length hs)) (factorial (length hs)) B (length hs))
         (det-cons-size B (factorial (length hs) * B ^ length hs) h hs (p h here) (det-size B hs (λ g m. p g (there m))) cs k)
 
-length-rowsFrom : (k m : ℕ) → length (rowsFrom k m) ≡ m
+pub length-rowsFrom : (k m : ℕ) → length (rowsFrom k m) ≡ m
 unfolding rowsFrom
 length-rowsFrom k zero = refl
 length-rowsFrom k (suc m) = ap suc (length-rowsFrom (suc k) m)

@@ -27,3 +27,7 @@ pub mod Crossed2
 pub mod Examples
 pub mod Bits
 pub mod Weights
+pub mod CountFrom
+pub mod Cofactor
+pub mod CoefficientSize
+pub mod SmallDeterminants

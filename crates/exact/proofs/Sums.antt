@@ -36,6 +36,11 @@ sumTo-step zero a f g = simp ring
 sumTo-step (suc m) a f g =
     ap (λ x. a ⊗ f zero ⊖ g zero ⊕ x) (sumTo-step m a (λ i. f (suc i)) (λ i. g (suc i))) ∙ simp ring
 
+pub sumTo-last : (m : ℕ) (f : ℕ → ℤ) → sumTo (suc m) f ≡ sumTo m f ⊕ f m
+unfolding sumTo
+sumTo-last zero f = add-zero (f zero) ∙ sym (zero-add (f zero))
+sumTo-last (suc m) f = ap (λ x. f zero ⊕ x) (sumTo-last m (λ i. f (suc i))) ∙ simp ring
+
 -- the sum with the unit columns' entries k is summand k
 pub sumTo-unit : (m : ℕ) (a : ℕ → ℤ) (k : ℕ) → k < m → sumTo m (λ j. a j ⊗ getD (unitColumn j) k 0ℤ) ≡ a k
 unfolding sumTo unitColumn

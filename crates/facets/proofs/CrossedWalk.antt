@@ -8,19 +8,9 @@ use lib.IntN.{ℤ}
 use Rattle.exact.specs.Sign.{Sign, negative, nought, positive, sign, orElse, lexSign, sameSign}
 use Rattle.exact.specs.Det.{Column, determinant}
 use Rattle.exact.specs.Crossed.{countFrom, coefficient, coefficients, allHaveSign, crossed}
+use Rattle.exact.proofs.CountFrom.{countFrom-next, countFrom-none}
 use Rattle.facets.specs.Signs.{signNumber}
 use Rattle.facets.proofs.SignNumber.{sameSign-number, sameSign-numbers-differ}
-
-countFrom-next : (k n : ℕ) → k < n → countFrom k (n - k) ≡ k ∷ countFrom (k + 1) (n - (k + 1))
-unfolding countFrom
-countFrom-next k n h =
-    let left : n - k ≡ suc (n - (k + 1)) = omega arith in
-    let next : suc k ≡ k + 1 = omega arith in
-    ap (countFrom k) left ∙ ap (λ m. k ∷ countFrom m (n - (k + 1))) next
-
-countFrom-none : (k n : ℕ) → n ≤ k → countFrom k (n - k) ≡ []
-unfolding countFrom
-countFrom-none k n h = let none : n - k ≡ 0 = omega arith in ap (countFrom k) none
 
 orElse-nought : (s t : Sign) → signNumber s ≡ 0 → orElse s t ≡ t
 unfolding signNumber orElse

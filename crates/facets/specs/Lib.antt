@@ -1,3 +1,4 @@
 -- What the contracts of this crate cite, beside the definitions of the crates below.
 pub mod Signs
 pub mod Cells
+pub mod Entries

@@ -10,54 +10,42 @@ use lib.Dec.{lit≤}
 use Rattle.exact.specs.Sign.{sign, lexSign}
 use Rattle.exact.specs.Det.{determinant}
 use Rattle.exact.specs.Crossed.{coefficient, coefficients, crossed}
-use Rattle.exact.proofs.Bits.{back, back-is}
-use Rattle.paper.specs.Cells.{columnList}
+use Rattle.exact.proofs.Bits.{holds-call}
+use Rattle.facets.specs.Cells.{facetColumns}
 use Rattle.facets.specs.Signs.{signNumber}
-use Rattle.determinants.proofs.DeterminantSteps.{facet-sizes, determinant-size}
-use Rattle.determinants.proofs.UnitColumn.{coefficient-size}
 use Rattle.facets.proofs.CrossedWalk.{leftAt, left-begin, left-passed, verticesLeft, crossed-zero, crossed-begin, vertices-none, vertex-with, vertex-against, vertex-without}
 use Rattle.facets.proofs.crossed.Statement.{statement}
 use Rattle.facets.proofs.crossed.Tie as tie
 
 abbrev Inv-loop : tie.InvT-loop
-Inv-loop n cols side with₀ i j₀ with j =
-    (with ≡ false) × ((j ≤ n) × (lexSign (coefficients n (columnList n cols) i) ≡ lexSign (leftAt n (columnList n cols) i j)))
+Inv-loop n cells out side with₀ i j₀ with j =
+    (with ≡ false) × ((j ≤ n) × (lexSign (coefficients n (facetColumns n cells out) i) ≡ lexSign (leftAt n (facetColumns n cells out) i j)))
 
 abbrev μ-loop : tie.MeasureT-loop
-μ-loop n cols side with₀ i j₀ with j = n - j
+μ-loop n cells out side with₀ i j₀ with j = n - j
 
 abbrev Inv-vertices : tie.InvT-vertices
-Inv-vertices n cols side with₀ i₀ with i =
-    (with ≡ true) × ((i ≤ n) × (crossed n (columnList n cols) ≡ verticesLeft n (columnList n cols) i))
+Inv-vertices n cells out side with₀ i₀ with i =
+    (with ≡ true) × ((i ≤ n) × (crossed n (facetColumns n cells out) ≡ verticesLeft n (facetColumns n cells out) i))
 
 abbrev μ-vertices : tie.MeasureT-vertices
-μ-vertices n cols side with₀ i₀ with i = n - i
+μ-vertices n cells out side with₀ i₀ with i = n - i
 
 -- `side` is the number of D's sign
 side-is :
     (c : tie.After-sign-of Inv-loop μ-loop Inv-vertices μ-vertices)
-    → c .sign-of .result ≡ signNumber (sign (determinant (c .before .before .args .n) (columnList (c .before .before .args .n) (c .before .before .args .cols))))
-side-is c =
-    c .sign-of .ensures
-    ∙ ap (λ z. signNumber (sign z))
-    (ap back (c .before .determinant .ensures)
-    ∙ back-is (determinant-size (c .before .before .args .n) (c .before .before .args .cols) (facet-sizes (c .before .before .pre))) (lit≤ tt))
+    → c .sign-of .result ≡ signNumber (sign (determinant (c .before .before .args .n) (facetColumns (c .before .before .args .n) (c .before .before .args .cells .now) (c .before .before .args .out))))
+side-is c = c .sign-of .ensures ∙ ap (λ z. signNumber (sign z)) (holds-call (c .before .determinant .ensures) (lit≤ tt) .is)
 
 -- `found` is the number of the coefficient's sign
 found-is :
     (c : tie.After-sign-of2 Inv-loop μ-loop Inv-vertices μ-vertices)
     → c .sign-of2 .result
-    ≡ signNumber (sign (coefficient (c .before .before .before .before .before .before .before .before .before .args .n) (columnList (c .before .before .before .before .before .before .before .before .before .args .n) (c .before .before .before .before .before .before .before .before .before .args .cols)) (c .before .before .before .before .before .vertices .i) (c .before .before .before .loop .j)))
-found-is c =
-    c .sign-of2 .ensures
-    ∙ ap (λ z. signNumber (sign z))
-    (ap back (c .before .coefficient .ensures)
-    ∙ back-is
-    (coefficient-size (c .before .before .before .before .before .before .before .before .before .args .n) (c .before .before .before .before .before .before .before .before .before .args .cols) (c .before .before .before .before .before .vertices .i) (c .before .before .before .loop .j) (facet-sizes (c .before .before .before .before .before .before .before .before .before .pre)) (c .before .before .before .before .before .before .before .before .before .good .1 .0 .1 .0 .1) (c .before .before .before .before .vertices-test .taken)
-    (c .before .before .loop-test .taken)) (lit≤ tt))
+    ≡ signNumber (sign (coefficient (c .before .before .before .before .before .before .before .before .before .args .n) (facetColumns (c .before .before .before .before .before .before .before .before .before .args .n) (c .before .before .before .before .before .before .before .before .before .args .cells .now) (c .before .before .before .before .before .before .before .before .before .args .out)) (c .before .before .before .before .before .vertices .i) (c .before .before .before .loop .j)))
+found-is c = c .sign-of2 .ensures ∙ ap (λ z. signNumber (sign z)) (holds-call (c .before .coefficient .ensures) (lit≤ tt) .is)
 
 determinant-requires : tie.Need-determinant-requires Inv-loop μ-loop Inv-vertices μ-vertices
-determinant-requires c κs = facet-sizes (c .pre)
+determinant-requires c κs = c .pre
 
 sign-of-requires : tie.Need-sign-of-requires Inv-loop μ-loop Inv-vertices μ-vertices
 sign-of-requires c κs = tt
@@ -73,7 +61,7 @@ loop-holds c = (refl, (omega arith, left-begin _ _ (c .before .vertices .i)))
 
 coefficient-requires : tie.Need-coefficient-requires Inv-loop μ-loop Inv-vertices μ-vertices
 coefficient-requires c κs =
-    (facet-sizes (c .before .before .before .before .before .before .before .pre), (c .before .before .vertices-test .taken, c .loop-test .taken))
+    (c .before .before .before .before .before .before .before .pre .0, (c .before .before .before .before .before .before .before .pre .1, (c .before .before .vertices-test .taken, c .loop-test .taken)))
 
 sign-of-requires-2 : tie.Need-sign-of-requires-2 Inv-loop μ-loop Inv-vertices μ-vertices
 sign-of-requires-2 c κs = tt
