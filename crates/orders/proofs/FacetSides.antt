@@ -6,11 +6,12 @@ use mathlib.Core.Bool.{Bool, true, false, cond, _&&_, _||_}
 use lib.Dec.{eqb, ltb}
 use lib.Count.{ones, onesIn}
 use borrow.Author.Tests.{eqb-true, ltb-true}
+use Rattle.exact.specs.Minors.{skip}
 use Rattle.curves.specs.Grid.{placeAt, masksFrom, sideOf, orders}
 use Rattle.curves.proofs.OrderTests.{and-left, and-right}
 use Rattle.paper.specs.Job.{allFrom}
 use Rattle.orders.specs.Table.{orderAt, axisAt, vertexMask, InTable}
-use Rattle.orders.specs.Facets.{sideAt, kept, facetMask}
+use Rattle.orders.specs.Facets.{sideAt, facetMask}
 use Rattle.orders.proofs.Tested.{passes}
 
 -- the facet is flat
@@ -30,12 +31,12 @@ between n row out = flatAt n row out || (ltb 0 out && ltb out n)
 
 module _ (n row out : ℕ) (h : InTable n row) (l : out ≤ n) where
   pub side-is : sideAt n row out ≡ sideRule n row out
-  unfolding rightSide sideAt facetMask kept vertexMask axisAt orderAt orders placeAt masksFrom sideOf ones onesIn allFrom
+  unfolding rightSide sideAt facetMask skip vertexMask axisAt orderAt orders placeAt masksFrom sideOf ones onesIn allFrom
   side-is = eqb-true (sideAt n row out) (sideRule n row out) (passes rightSide refl refl refl n row out h l)
 
   -- a bent facet leaves out a vertex between the first and the last
   lies-between : flatAt n row out ≡ false → (ltb 0 out && ltb out n) ≡ true
-  unfolding between facetMask kept vertexMask orderAt orders masksFrom ones onesIn allFrom
+  unfolding between facetMask skip vertexMask orderAt orders masksFrom ones onesIn allFrom
   lies-between e = ap (λ t. t || (ltb 0 out && ltb out n)) (sym e) ∙ passes between refl refl refl n row out h l
 
   pub bent-low : flatAt n row out ≡ false → 0 < out

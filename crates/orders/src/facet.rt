@@ -2,13 +2,14 @@
 
 ghost use mathlib.Core.Path.{_≡_};
 ghost use Prim.Native.Nat.{_≤_, _<_};
+ghost use Rattle.exact.specs.Minors.{skip};
 ghost use Rattle.orders.specs.Table.{InTable, axisAt};
-ghost use Rattle.orders.specs.Facets.{kept, facetMask, sideAt};
+ghost use Rattle.orders.specs.Facets.{facetMask, sideAt};
 use crate::table;
 use bits::masks;
 
 // The axis that leads from vertex k to the next: the only one of the difference.
-pub fn added_axis(n: usize, row: usize, k: usize) -> usize
+fn added_axis(n: usize, row: usize, k: usize) -> usize
     requires { ⌜ (InTable n row) × (k < n) ⌝ }
     ensures { λ r. ⌜ r ≡ axisAt n row k ⌝ }
 {
@@ -16,9 +17,9 @@ pub fn added_axis(n: usize, row: usize, k: usize) -> usize
 }
 
 // Vertex i of the facet without vertex `out`, as a vertex of the simplex.
-pub fn kept(out: usize, i: usize) -> usize
+fn skip(out: usize, i: usize) -> usize
     requires { ⌜ i < 4 ⌝ }
-    ensures { λ r. ⌜ r ≡ kept out i ⌝ }
+    ensures { λ r. ⌜ r ≡ skip out i ⌝ }
 {
     if i < out {
         return i;
@@ -34,7 +35,7 @@ pub fn facet_mask(n: usize, row: usize, out: usize, i: usize) -> u64
     if n <= i {
         return 0;
     }
-    table::vertex_mask(n, row, kept(out, i)) - table::vertex_mask(n, row, kept(out, 0))
+    table::vertex_mask(n, row, skip(out, i)) - table::vertex_mask(n, row, skip(out, 0))
 }
 
 // The side of the facet without vertex `out`. Flat: the vertex left out is the lowest (1) or the highest (0). Bent: the lower of

@@ -7,13 +7,6 @@ ghost use lib.Dec.{eqb};
 ghost use Rattle.exact.specs.Crossed.{crossed, exit};
 ghost use Rattle.facets.specs.Cells.{Cells, simplexColumns, facetColumns};
 
-pub fn crossed(n: usize, cells: &[i64; 15], out: usize) -> bool
-    requires { ⌜ (Cells n (now cells)) × (out ≤ n) ⌝ }
-    ensures { λ r. ⌜ r ≡ crossed n (facetColumns n (now (cells .entry)) out) ⌝ }
-{
-    false
-}
-
 // q is another vertex than `out`, and the facet without it is crossed.
 pub fn is_other(n: usize, cells: &[i64; 15], out: usize, q: usize) -> bool
     requires { ⌜ (Cells n (now cells)) × (q ≤ n) ⌝ }
@@ -22,7 +15,7 @@ pub fn is_other(n: usize, cells: &[i64; 15], out: usize, q: usize) -> bool
     if q == out {
         return false;
     }
-    crossed(n, cells, q)
+    facets::crossed(n, cells, q)
 }
 
 // The exit for the facet without vertex `out`; n + 1 if no other facet is crossed.

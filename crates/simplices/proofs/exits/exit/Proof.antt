@@ -1,42 +1,54 @@
+-- `exits::exit` meets its contract. The loop's invariant: the search goes on from q (`exit-here`, `exit-later`, `exit-end`).
+use Prim.Native.Nat.{suc, _-_, _≤_}
+use mathlib.Core.Path.{_≡_, sym, _∙_}
+use native.Mathlib.Omega.{arith}
+use Rattle.exact.specs.Crossed.{exit}
+use Rattle.facets.specs.Cells.{simplexColumns, facetColumns}
+use Rattle.simplices.proofs.ExitSearch.{searchFrom, exit-start, exit-here, exit-later, exit-end}
 use Rattle.simplices.proofs.exits.exit.Statement.{statement}
 use Rattle.simplices.proofs.exits.exit.Tie as tie
-use Rattle.simplices.proofs.exits.exit.Reads as reads
-use Rattle.simplices.proofs.exits.exit.Lts as lts
-use Rattle.simplices.proofs.exits.is_other.Reads as is-other-reads
 
 abbrev Inv-loop : tie.InvT-loop
-Inv-loop n cells out q₀ q = ?
+Inv-loop n cells out q₀ q = (q ≤ suc n) × (exit n (simplexColumns n cells) out ≡ searchFrom n (simplexColumns n cells) out q)
 
 abbrev μ-loop : tie.MeasureT-loop
-μ-loop n cells out q₀ q = ?
+μ-loop n cells out q₀ q = suc n - q
 
--- src/exits.rt:34:5
 loop-holds : tie.Need-loop-holds Inv-loop μ-loop
-loop-holds c = ?
+loop-holds c = (omega arith, exit-start (c .args .n) (simplexColumns (c .args .n) (c .args .cells .now)) (c .args .out))
 
--- src/exits.rt:35:12
 is-other-requires : tie.Need-is-other-requires Inv-loop μ-loop
-is-other-requires c κs = ?
+is-other-requires c κs = (c .before .before .pre .0, omega arith)
 
--- src/exits.rt:36:13
 returns : tie.Need-returns Inv-loop μ-loop
-returns c = ?
+unfolding facetColumns
+returns c =
+    sym
+    (c .before .before .before .loop .inv .1
+    ∙ exit-here (c .before .before .before .before .args .n) (simplexColumns (c .before .before .before .before .args .n) (c .before .before .before .before .args .cells .now)) (c .before .before .before .before .args .out) (c .before .before .before .loop .q)
+    (c .before .before .loop-test .taken) (sym (c .before .is-other .ensures) ∙ c .if1 .taken))
 
--- src/exits.rt:38:9
 add-q : tie.Need-add-q Inv-loop μ-loop
-add-q c = ?
+add-q c = record { fits = omega (arith, c .before .before .loop-test .taken, c .before .before .before .before .pre .0 .axes .high) }
 
--- src/exits.rt:34:5
 loop-less : tie.Need-loop-less Inv-loop μ-loop
-loop-less c = ?
+loop-less c = omega arith
 
--- src/exits.rt:34:5
 loop-again : tie.Need-loop-again Inv-loop μ-loop
-loop-again c = ?
+unfolding facetColumns
+loop-again c = (
+  omega arith,
+  c .before .before .before .loop .inv .1
+      ∙ exit-later (c .before .before .before .before .args .n) (simplexColumns (c .before .before .before .before .args .n) (c .before .before .before .before .args .cells .now)) (c .before .before .before .before .args .out) (c .before .before .before .loop .q)
+      (c .before .before .loop-test .taken) (sym (c .before .is-other .ensures) ∙ c .if1 .left),
+)
 
--- src/exits.rt:29:1
 returns-2 : tie.Need-returns-2 Inv-loop μ-loop
-returns-2 c = ?
+returns-2 c =
+    sym
+    (c .before .loop .inv .1
+    ∙ exit-end (c .before .before .args .n) (simplexColumns (c .before .before .args .n) (c .before .before .args .cells .now)) (c .before .before .args .out) (c .before .loop .q)
+    (omega (arith, c .before .loop .inv .0, c .loop-test .left)))
 
 pub exit-spec : {M : Type 1} → statement M
 exit-spec =

@@ -1,21 +1,23 @@
+-- `exits::is_other` meets its contract.
+use mathlib.Core.Path.{sym, ap, _∙_}
+use mathlib.Core.Bool.{not, _&&_}
 use borrow.Author.Needs.{needs}
+use borrow.Author.Tests.{eq-eqb, ne-eqb}
+use Rattle.exact.specs.Crossed.{crossed}
+use Rattle.facets.specs.Cells.{facetColumns}
 use Rattle.simplices.proofs.exits.is_other.Statement.{statement}
 use Rattle.simplices.proofs.exits.is_other.Tie as tie
-use Rattle.simplices.proofs.exits.is_other.Reads as reads
-use Rattle.simplices.proofs.exits.is_other.Lts as lts
-use Rattle.simplices.proofs.exits.crossed.Reads as crossed-reads
 
--- src/exits.rt:23:9
 returns : tie.Need-returns
-returns c = ?
+returns c = rw (eq-eqb (c .before .args .q) (c .before .args .out) (c .if1 .taken))
 
--- src/exits.rt:25:5
 crossed-requires : tie.Need-crossed-requires
 crossed-requires c κs = search needs
 
--- src/exits.rt:18:1
 returns-2 : tie.Need-returns-2
-returns-2 c = ?
+returns-2 c =
+    c .crossed .ensures
+    ∙ ap (λ t. not t && crossed (c .before .before .args .n) (facetColumns (c .before .before .args .n) (c .before .before .args .cells .now) (c .before .before .args .q))) (sym (ne-eqb (c .before .before .args .q) (c .before .before .args .out) (c .before .if1 .left)))
 
 pub is-other-spec : {M : Type 1} → statement M
 is-other-spec = tie.close (tie.spec returns crossed-requires returns-2)
