@@ -4,3 +4,5 @@ pub mod Rows
 pub mod VertexMasks
 pub mod FacetMasks
 pub mod FacetSides
+pub mod Moves
+pub mod Anywhere

@@ -1,5 +1,5 @@
--- The masks of a simplex's vertices rise: each adds the next axis of the order.
-use Prim.Native.Nat.{ℕ, suc, zero, _+_, _*_, _%_, _^_, _≤_, _<_}
+-- The masks of a simplex's vertices rise: each adds the next axis of the order. Behind the last there are none.
+use Prim.Native.Nat.{ℕ, suc, zero, _+_, _^_, _≤_, _<_}
 use mathlib.Core.Path.{_≡_, refl, ap}
 use mathlib.Core.List.{List, [], _∷_}
 use native.Mathlib.Omega.{arith}
@@ -31,16 +31,13 @@ vertexMask-rises o k (suc d) l =
     the : (k d : ℕ) → k + suc d ≡ suc (k + d)
     the k d = omega arith
 
--- the mask of one of three axes is small
-pub power-small : (a : ℕ) → a < 3 → 2 ^ a ≤ 4
-power-small zero l = omega arith
-power-small (suc zero) l = omega arith
-power-small (suc (suc zero)) l = omega arith
-power-small (suc (suc (suc a))) l = absurd (omega arith)
+masks-none : (m : ℕ) (o : List ℕ) (k : ℕ) → length o < k → getD (m ∷ masksFrom m o) k 0 ≡ 0
+unfolding masksFrom
+masks-none m [] zero l = absurd (omega arith)
+masks-none m [] (suc k) l = refl
+masks-none m (a ∷ o) zero l = absurd (omega arith)
+masks-none m (a ∷ o) (suc k) l = masks-none (m + 2 ^ a) o k (omega arith)
 
--- shifted to its axis, a bit stays inside 64 bits
-pub shifted : (a : ℕ) → a < 3 → 1 * 2 ^ a % 18446744073709551616 ≡ 2 ^ a
-shifted zero l = refl
-shifted (suc zero) l = refl
-shifted (suc (suc zero)) l = refl
-shifted (suc (suc (suc a))) l = absurd (omega arith)
+pub vertexMask-none : (o : List ℕ) (k : ℕ) → length o < k → vertexMask o k ≡ 0
+unfolding vertexMask
+vertexMask-none o k l = masks-none 0 o k l

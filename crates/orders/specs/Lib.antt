@@ -1,3 +1,4 @@
 -- What the contracts of this crate cite, beside the definitions of the crates below.
 pub mod Table
-pub mod Shapes
+pub mod Facets
+pub mod Corners

@@ -1,11 +1,10 @@
 -- Rows of the table of orders, and the vertices of a simplex as masks. The table itself is `orders` of the crate curves.
 use Prim.Native.Nat.{ℕ, _<_}
 use mathlib.Core.Path.{_≡_}
-use mathlib.Core.Bool.{true}
 use mathlib.Core.List.{List, [], _∷_}
 use lib.ListN.{length, getD}
 use Rattle.curves.specs.Grid.{masksFrom, orders}
-use Rattle.paper.specs.Limits.{dimensionOk}
+use Rattle.bits.specs.Axes.{Axes}
 
 -- the order in a row of the table
 unfoldable pub orderAt : ℕ → ℕ → List ℕ
@@ -19,9 +18,9 @@ axisAt n row k = getD (orderAt n row) k 0
 unfoldable pub vertexMask : List ℕ → ℕ → ℕ
 vertexMask o k = getD (0 ∷ masksFrom 0 o) k 0
 
--- a row of the table for n axes
+-- a row of the table for n axes; four axes have none yet
 pub record InTable (n row : ℕ) : Type 0 where
-  pub dimension : dimensionOk n ≡ true
+  pub axes : Axes n
   pub inside : row < length (orders n)
 
 -- r is entry k of a row, an axis

@@ -3,4 +3,6 @@
 // The table of orders, and the vertices of a row as masks.
 pub mod table;
 // The facets of a row: masks and side.
-pub mod shapes;
+pub mod facet;
+// The places of a simplex: a facet's lowest vertex, masks and side.
+pub mod place;

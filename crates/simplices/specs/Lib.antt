@@ -1,4 +1,2 @@
 -- What the contracts of the simplices' functions cite, beside the definitions of the crates below.
 pub mod Search
-pub mod Corners
-pub mod Exits

@@ -3,14 +3,16 @@
 
 ghost use mathlib.Core.Path.{_≡_};
 ghost use mathlib.Core.Bool.{true};
-ghost use Prim.Native.Nat.{_≤_, _<_};
-ghost use lib.ListN.{length};
-ghost use Rattle.curves.specs.Grid.{chain, orders};
-ghost use Rattle.paper.specs.Cells.{maskList};
+ghost use Prim.Native.Nat.{_≤_};
+ghost use Rattle.curves.specs.Grid.{sameMasks, placeOk};
 ghost use Rattle.paper.specs.Limits.{dimensionOk};
+ghost use Rattle.places.specs.Held.{masksAs, placeAs};
 ghost use Rattle.orders.specs.Table.{InTable};
+ghost use Rattle.orders.specs.Facets.{masksAt};
 ghost use Rattle.simplices.specs.Search.{matches, FoundOut, Found};
-use orders::shapes;
+use orders::facet;
+use orders::table;
+use places::HeldPlace;
 
 // A row of the table, and the index of the vertex left out.
 pub struct Incident {
@@ -18,32 +20,48 @@ pub struct Incident {
     pub out: usize,
 }
 
-// The facet without vertex `out` has these masks and this side.
-pub fn matches(n: usize, row: usize, out: usize, mask1: u64, mask2: u64, side: u64) -> bool
+// The facet without vertex `out` has the place's masks.
+pub fn same_masks(n: usize, row: usize, out: usize, p: HeldPlace) -> bool
     requires { ⌜ (InTable n row) × (out ≤ n) ⌝ }
-    ensures { λ r. ⌜ r ≡ matches n row out (maskList n mask1 mask2) side ⌝ }
+    ensures { λ r. ⌜ r ≡ sameMasks (masksAt n row out) (masksAs n p) ⌝ }
 {
-    let s = shapes::shape_of(n, row, out);
-    if s.mask1 != mask1 {
+    if facet::facet_mask(n, row, out, 1) != p.mask1 {
         return false;
     }
     if n == 2 {
-        return s.side == side;
+        return true;
     }
-    if s.mask2 != mask2 {
+    if facet::facet_mask(n, row, out, 2) != p.mask2 {
         return false;
     }
-    s.side == side
+    if n == 3 {
+        return true;
+    }
+    if facet::facet_mask(n, row, out, 3) != p.mask3 {
+        return false;
+    }
+    true
+}
+
+// The facet without vertex `out` has the place's masks and side.
+pub fn matches(n: usize, row: usize, out: usize, p: HeldPlace) -> bool
+    requires { ⌜ (InTable n row) × (out ≤ n) ⌝ }
+    ensures { λ r. ⌜ r ≡ matches n row out (placeAs n p) ⌝ }
+{
+    if same_masks(n, row, out, p) {
+        return facet::side(n, row, out) == p.side;
+    }
+    false
 }
 
 // The first vertex whose facet matches; n + 1 if there is none in this row.
-pub fn find_out(n: usize, row: usize, mask1: u64, mask2: u64, side: u64) -> usize
+pub fn find_out(n: usize, row: usize, p: HeldPlace) -> usize
     requires { ⌜ InTable n row ⌝ }
-    ensures { λ r. ⌜ FoundOut n row (maskList n mask1 mask2) side r ⌝ }
+    ensures { λ r. ⌜ FoundOut n row (placeAs n p) r ⌝ }
 {
     let mut out: usize = 0;
     while out <= n {
-        if matches(n, row, out, mask1, mask2, side) {
+        if matches(n, row, out, p) {
             return out;
         }
         out += 1;
@@ -51,26 +69,15 @@ pub fn find_out(n: usize, row: usize, mask1: u64, mask2: u64, side: u64) -> usiz
     out
 }
 
-// The rows of the table.
-pub fn rows(n: usize) -> usize
-    requires { ⌜ dimensionOk n ≡ true ⌝ }
-    ensures { λ r. ⌜ r ≡ length (orders n) ⌝ }
+// The simplex on the side of a well-formed place.
+pub fn find(n: usize, p: HeldPlace) -> Incident
+    requires { ⌜ (dimensionOk n ≡ true) × (placeOk n (placeAs n p) ≡ true) ⌝ }
+    ensures { λ r. ⌜ Found n (placeAs n p) (r .row) (r .out) ⌝ }
 {
-    if n == 2 {
-        return 2;
-    }
-    6
-}
-
-// The simplex on the side of a well-formed place with these masks.
-pub fn find(n: usize, mask1: u64, mask2: u64, side: u64) -> Incident
-    requires { ⌜ (dimensionOk n ≡ true) × ((chain n 0 (maskList n mask1 mask2) ≡ true) × (side < 2)) ⌝ }
-    ensures { λ r. ⌜ Found n (maskList n mask1 mask2) side (r .row) (r .out) ⌝ }
-{
-    let count = rows(n);
+    let count = table::rows(n);
     let mut row: usize = 0;
     while row < count {
-        let out = find_out(n, row, mask1, mask2, side);
+        let out = find_out(n, row, p);
         if out <= n {
             return Incident { row, out };
         }

@@ -2,8 +2,7 @@
 use Prim.Native.Nat.{_<_}
 use mathlib.Core.Path.{_≡_}
 use native.Mathlib.Omega.{arith}
-use Rattle.paper.proofs.Tests.{dimension-not-two}
-use Rattle.orders.proofs.Tested.{rows-two, rows-three}
+use Rattle.orders.proofs.Tested.{rows-two, rows-three, not-two}
 use Rattle.orders.proofs.Rows.{entry-two, entry-three, axis-under}
 use Rattle.orders.proofs.table.axis.Statement.{statement}
 use Rattle.orders.proofs.table.axis.Tie as tie
@@ -13,10 +12,10 @@ row-two : (c : tie.Then1) → c .before .args .row < 2
 row-two c = rows-two (c .before .args .n) (c .before .args .row) (c .before .pre .0) (c .if1 .taken)
 
 is-three : (c : tie.Else1) → c .before .args .n ≡ 3
-is-three c = dimension-not-two (c .before .args .n) (c .before .pre .0 .dimension) (c .if1 .left)
+is-three c = not-two (c .before .args .n) (c .before .args .row) (c .before .pre .0) (c .if1 .left)
 
 row-three : (c : tie.Else1) → c .before .args .row < 6
-row-three c = rows-three (c .before .args .n) (c .before .args .row) (c .before .pre .0) (is-three c)
+row-three c = rows-three (c .before .args .n) (c .before .args .row) (c .before .pre .0) (c .if1 .left)
 
 mul-result : tie.Need-mul-result
 mul-result c = omega (arith, row-two c)
@@ -24,11 +23,20 @@ mul-result c = omega (arith, row-two c)
 add-result : tie.Need-add-result
 add-result c = omega (arith, row-two c)
 
-mul-result-2 : tie.Need-mul-result-2
-mul-result-2 c = omega (arith, row-two c)
-
 array-read-result : tie.Need-array-read-result
 array-read-result c = omega (arith, row-two c)
+
+cast-result : tie.Need-cast-result
+cast-result c =
+    record {
+      fits =
+          omega (
+            arith,
+            c .before .pre .0 .axes .high,
+            entry-two (c .before .args .n) (c .before .args .row) (c .before .args .k) (c .before .pre .0) (c .before .pre .1) (c .if1 .taken),
+            axis-under (c .before .args .n) (c .before .args .row) (c .before .args .k) (c .before .pre .0) (c .before .pre .1),
+          );
+    }
 
 returns : tie.Need-returns
 returns c =
@@ -38,21 +46,30 @@ returns c =
       under = rw e (axis-under (c .before .args .n) (c .before .args .row) (c .before .args .k) (c .before .pre .0) (c .before .pre .1));
     }
 
-mul-result-3 : tie.Need-mul-result-3
-mul-result-3 c = omega (arith, row-three c)
+mul-result-2 : tie.Need-mul-result-2
+mul-result-2 c = omega (arith, row-three c)
 
 add-result-2 : tie.Need-add-result-2
 add-result-2 c = omega (arith, row-three c, is-three c)
 
-mul-result-4 : tie.Need-mul-result-4
-mul-result-4 c = omega (arith, row-three c, is-three c)
-
 array-read-result-2 : tie.Need-array-read-result-2
 array-read-result-2 c = omega (arith, row-three c, is-three c)
 
+cast-result-2 : tie.Need-cast-result-2
+cast-result-2 c =
+    record {
+      fits =
+          omega (
+            arith,
+            c .before .pre .0 .axes .high,
+            entry-three (c .before .args .n) (c .before .args .row) (c .before .args .k) (c .before .pre .0) (c .before .pre .1) (c .if1 .left),
+            axis-under (c .before .args .n) (c .before .args .row) (c .before .args .k) (c .before .pre .0) (c .before .pre .1),
+          );
+    }
+
 returns-2 : tie.Need-returns-2
 returns-2 c =
-    let e = entry-three (c .before .args .n) (c .before .args .row) (c .before .args .k) (c .before .pre .0) (c .before .pre .1) (is-three c) in
+    let e = entry-three (c .before .args .n) (c .before .args .row) (c .before .args .k) (c .before .pre .0) (c .before .pre .1) (c .if1 .left) in
     record {
       is = e;
       under = rw e (axis-under (c .before .args .n) (c .before .args .row) (c .before .args .k) (c .before .pre .0) (c .before .pre .1));
@@ -64,11 +81,11 @@ axis-spec =
     (tie.spec
     mul-result
     add-result
-    mul-result-2
     array-read-result
+    cast-result
     returns
-    mul-result-3
+    mul-result-2
     add-result-2
-    mul-result-4
     array-read-result-2
+    cast-result-2
     returns-2)

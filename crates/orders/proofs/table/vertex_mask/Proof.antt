@@ -1,78 +1,83 @@
--- `table::vertex_mask` meets its contract. The loop's invariant: m is the mask of vertex j, and at most 4 for each axis passed.
-use Prim.Native.Nat.{_+_, _*_, _-_, _^_, _≤_}
-use mathlib.Core.Path.{_≡_, refl, sym, ap, ap₂, _∙_}
+-- `table::vertex_mask` meets its contract: the arrays have the masks of the table's vertices (`mask-two`, `mask-three`).
+use Prim.Native.Nat.{_<_}
+use mathlib.Core.Path.{_≡_}
 use native.Mathlib.Omega.{arith}
-use native.Mathlib.Numerals.{add-one}
-use Rattle.orders.specs.Table.{orderAt, axisAt, vertexMask}
-use Rattle.orders.proofs.Rows.{row-length, dimension-small}
-use Rattle.orders.proofs.VertexMasks.{vertexMask-step, power-small}
+use Rattle.orders.proofs.Tested.{rows-two, rows-three, not-two}
+use Rattle.orders.proofs.Rows.{mask-two, mask-three, mask-under}
 use Rattle.orders.proofs.table.vertex_mask.Statement.{statement}
 use Rattle.orders.proofs.table.vertex_mask.Tie as tie
-use Rattle.orders.proofs.table.vertex_mask.Reads as reads
-use Rattle.orders.proofs.table.vertex_mask.Lts as lts
-use Rattle.orders.proofs.table.axis.Reads as axis-reads
-use Rattle.orders.proofs.table.one_axis.Reads as one-axis-reads
 
-abbrev Inv-loop : tie.InvT-loop
-Inv-loop n row k m₀ j₀ m j = (m ≡ vertexMask (orderAt n row) j) × ((m ≤ 4 * j) × (j ≤ k))
+-- the row's bound in each branch
+row-two : (c : tie.Then1) → c .before .args .row < 2
+row-two c = rows-two (c .before .args .n) (c .before .args .row) (c .before .pre .0) (c .if1 .taken)
 
-abbrev μ-loop : tie.MeasureT-loop
-μ-loop n row k m₀ j₀ m j = k - j
+is-three : (c : tie.Else1) → c .before .args .n ≡ 3
+is-three c = not-two (c .before .args .n) (c .before .args .row) (c .before .pre .0) (c .if1 .left)
 
-loop-holds : tie.Need-loop-holds Inv-loop μ-loop
-unfolding vertexMask
-loop-holds c = (refl, (omega arith, omega arith))
+row-three : (c : tie.Else1) → c .before .args .row < 6
+row-three c = rows-three (c .before .args .n) (c .before .args .row) (c .before .pre .0) (c .if1 .left)
 
-axis-requires : tie.Need-axis-requires Inv-loop μ-loop
-axis-requires c κs = (c .before .before .pre .0, omega arith)
+mul-result : tie.Need-mul-result
+mul-result c = omega (arith, row-two c)
 
-one-axis-requires : tie.Need-one-axis-requires Inv-loop μ-loop
-one-axis-requires c κs =
-    omega (arith, c .axis .ensures .under, dimension-small (c .before .before .before .args .n) (c .before .before .before .args .row) (c .before .before .before .pre .0) .0)
+add-result : tie.Need-add-result
+add-result c = omega (arith, row-two c)
 
-three : (c : tie.After-one-axis Inv-loop μ-loop) → c .before .before .before .before .args .n ≤ 3
-three c =
-    dimension-small (c .before .before .before .before .args .n) (c .before .before .before .before .args .row) (c .before .before .before .before .pre .0) .0
+array-read-result : tie.Need-array-read-result
+array-read-result c = omega (arith, row-two c)
 
--- in a turn: what is added is at most 4, and j is under n, which is at most 3
-step-small : (c : tie.After-one-axis Inv-loop μ-loop) → c .one-axis .result ≤ 4
-step-small c =
-    rw (c .one-axis .ensures)
-    (power-small (c .before .axis .result)
-    (omega (arith, c .before .axis .ensures .under, three c)))
+cast-result : tie.Need-cast-result
+cast-result c =
+    record {
+      fits =
+          omega (
+            arith,
+            c .before .pre .0 .axes .high,
+            mask-two (c .before .args .n) (c .before .args .row) (c .before .args .k) (c .before .pre .0) (c .before .pre .1) (c .if1 .taken),
+            mask-under (c .before .args .n) (c .before .args .row) (c .before .args .k) (c .before .pre .0) (c .before .pre .1),
+          );
+    }
 
-add-m : tie.Need-add-m Inv-loop μ-loop
-add-m c = record { fits = omega (arith, step-small c, three c) }
+returns : tie.Need-returns
+returns c =
+    mask-two (c .before .args .n) (c .before .args .row) (c .before .args .k) (c .before .pre .0) (c .before .pre .1) (c .if1 .taken)
 
-add-j : tie.Need-add-j Inv-loop μ-loop
-add-j c = record { fits = omega (arith, three c) }
+mul-result-2 : tie.Need-mul-result-2
+mul-result-2 c = omega (arith, row-three c)
 
-loop-less : tie.Need-loop-less Inv-loop μ-loop
-loop-less c = omega arith
+add-result-2 : tie.Need-add-result-2
+add-result-2 c = omega (arith, row-three c, is-three c)
 
-loop-again : tie.Need-loop-again Inv-loop μ-loop
-unfolding axisAt
-loop-again c = (
-  ap₂ (λ x y. x + y) (c .before .before .before .loop .inv .0) (c .one-axis .ensures ∙ ap (λ a. 2 ^ a) (c .before .axis .ensures .is))
-      ∙ sym (vertexMask-step (orderAt (c .before .before .before .before .args .n) (c .before .before .before .before .args .row)) (c .before .before .before .loop .j) (omega (arith, three c, row-length (c .before .before .before .before .args .n) (c .before .before .before .before .args .row) (c .before .before .before .before .pre .0))))
-      ∙ ap (vertexMask (orderAt (c .before .before .before .before .args .n) (c .before .before .before .before .args .row))) (sym (add-one (c .before .before .before .loop .j))),
-  (omega (arith, step-small c), omega arith),
-)
+array-read-result-2 : tie.Need-array-read-result-2
+array-read-result-2 c = omega (arith, row-three c, is-three c)
 
-returns : tie.Need-returns Inv-loop μ-loop
-returns c = c .before .loop .inv .0 ∙ ap (vertexMask (orderAt (c .before .before .args .n) (c .before .before .args .row))) (omega arith)
+cast-result-2 : tie.Need-cast-result-2
+cast-result-2 c =
+    record {
+      fits =
+          omega (
+            arith,
+            c .before .pre .0 .axes .high,
+            mask-three (c .before .args .n) (c .before .args .row) (c .before .args .k) (c .before .pre .0) (c .before .pre .1) (c .if1 .left),
+            mask-under (c .before .args .n) (c .before .args .row) (c .before .args .k) (c .before .pre .0) (c .before .pre .1),
+          );
+    }
+
+returns-2 : tie.Need-returns-2
+returns-2 c =
+    mask-three (c .before .args .n) (c .before .args .row) (c .before .args .k) (c .before .pre .0) (c .before .pre .1) (c .if1 .left)
 
 pub vertex-mask-spec : {M : Type 1} → statement M
 vertex-mask-spec =
     tie.close
     (tie.spec
-    Inv-loop
-    μ-loop
-    loop-holds
-    axis-requires
-    one-axis-requires
-    add-m
-    add-j
-    loop-less
-    loop-again
-    returns)
+    mul-result
+    add-result
+    array-read-result
+    cast-result
+    returns
+    mul-result-2
+    add-result-2
+    array-read-result-2
+    cast-result-2
+    returns-2)

@@ -3,42 +3,43 @@ use Prim.Native.Nat.{suc, _-_, _≤_}
 use mathlib.Core.Path.{_≡_, sym, _∙_}
 use native.Mathlib.Omega.{arith}
 use Rattle.exact.specs.Crossed.{exit}
-use Rattle.paper.proofs.Tests.{dimension-range}
-use Rattle.simplices.specs.Exits.{simplexColumns}
+use Rattle.facets.specs.Cells.{simplexColumns, facetColumns}
 use Rattle.simplices.proofs.ExitSearch.{searchFrom, exit-start, exit-here, exit-later, exit-end}
 use Rattle.simplices.proofs.exits.exit.Statement.{statement}
 use Rattle.simplices.proofs.exits.exit.Tie as tie
 
 abbrev Inv-loop : tie.InvT-loop
-Inv-loop n cols out q₀ q = (q ≤ suc n) × (exit n (simplexColumns n cols) out ≡ searchFrom n (simplexColumns n cols) out q)
+Inv-loop n cells out q₀ q = (q ≤ suc n) × (exit n (simplexColumns n cells) out ≡ searchFrom n (simplexColumns n cells) out q)
 
 abbrev μ-loop : tie.MeasureT-loop
-μ-loop n cols out q₀ q = suc n - q
+μ-loop n cells out q₀ q = suc n - q
 
 loop-holds : tie.Need-loop-holds Inv-loop μ-loop
-loop-holds c = (omega arith, exit-start (c .args .n) (simplexColumns (c .args .n) (c .args .cols)) (c .args .out))
+loop-holds c = (omega arith, exit-start (c .args .n) (simplexColumns (c .args .n) (c .args .cells .now)) (c .args .out))
 
 is-other-requires : tie.Need-is-other-requires Inv-loop μ-loop
-is-other-requires c κs = (c .before .before .pre, omega arith)
+is-other-requires c κs = (c .before .before .pre .0, omega arith)
 
 returns : tie.Need-returns Inv-loop μ-loop
+unfolding facetColumns
 returns c =
     sym
     (c .before .before .before .loop .inv .1
-    ∙ exit-here (c .before .before .before .before .args .n) (simplexColumns (c .before .before .before .before .args .n) (c .before .before .before .before .args .cols)) (c .before .before .before .before .args .out) (c .before .before .before .loop .q)
+    ∙ exit-here (c .before .before .before .before .args .n) (simplexColumns (c .before .before .before .before .args .n) (c .before .before .before .before .args .cells .now)) (c .before .before .before .before .args .out) (c .before .before .before .loop .q)
     (c .before .before .loop-test .taken) (sym (c .before .is-other .ensures) ∙ c .if1 .taken))
 
 add-q : tie.Need-add-q Inv-loop μ-loop
-add-q c = record { fits = omega (arith, c .before .before .loop-test .taken, dimension-range (c .before .before .before .before .args .n) (c .before .before .before .before .pre .dimension) .high) }
+add-q c = record { fits = omega (arith, c .before .before .loop-test .taken, c .before .before .before .before .pre .0 .axes .high) }
 
 loop-less : tie.Need-loop-less Inv-loop μ-loop
 loop-less c = omega arith
 
 loop-again : tie.Need-loop-again Inv-loop μ-loop
+unfolding facetColumns
 loop-again c = (
   omega arith,
   c .before .before .before .loop .inv .1
-      ∙ exit-later (c .before .before .before .before .args .n) (simplexColumns (c .before .before .before .before .args .n) (c .before .before .before .before .args .cols)) (c .before .before .before .before .args .out) (c .before .before .before .loop .q)
+      ∙ exit-later (c .before .before .before .before .args .n) (simplexColumns (c .before .before .before .before .args .n) (c .before .before .before .before .args .cells .now)) (c .before .before .before .before .args .out) (c .before .before .before .loop .q)
       (c .before .before .loop-test .taken) (sym (c .before .is-other .ensures) ∙ c .if1 .left),
 )
 
@@ -46,7 +47,7 @@ returns-2 : tie.Need-returns-2 Inv-loop μ-loop
 returns-2 c =
     sym
     (c .before .loop .inv .1
-    ∙ exit-end (c .before .before .args .n) (simplexColumns (c .before .before .args .n) (c .before .before .args .cols)) (c .before .before .args .out) (c .before .loop .q)
+    ∙ exit-end (c .before .before .args .n) (simplexColumns (c .before .before .args .n) (c .before .before .args .cells .now)) (c .before .before .args .out) (c .before .loop .q)
     (omega (arith, c .before .loop .inv .0, c .loop-test .left)))
 
 pub exit-spec : {M : Type 1} → statement M

@@ -5,37 +5,34 @@ use mathlib.Core.Path.{_≡_}
 use mathlib.Core.Bool.{false}
 use native.Mathlib.Omega.{arith}
 use borrow.Author.Count.{below-more}
-use Rattle.paper.specs.Cells.{maskList}
-use Rattle.paper.proofs.Tests.{two-or-three}
+use Rattle.bits.proofs.EachDimension.{dimension-axes}
+use Rattle.places.specs.Held.{placeAs}
 use Rattle.simplices.specs.Search.{matches}
-use Rattle.simplices.proofs.Matching.{length-maskList}
-use Rattle.simplices.proofs.Finding.{found, some-match}
+use Rattle.simplices.proofs.Matches.{found, some-match}
 use Rattle.simplices.proofs.search.find.Statement.{statement}
 use Rattle.simplices.proofs.search.find.Tie as tie
 
 abbrev Inv-loop : tie.InvT-loop
-Inv-loop n mask1 mask2 side count row₀ row =
-    (row ≤ count) × ((r : ℕ) → r < row → (k : ℕ) → k ≤ n → matches n r k (maskList n mask1 mask2) side ≡ false)
+Inv-loop n p count row₀ row =
+    (row ≤ count) × ((r : ℕ) → r < row → (k : ℕ) → k ≤ n → matches n r k (placeAs n p) ≡ false)
 
 abbrev μ-loop : tie.MeasureT-loop
-μ-loop n mask1 mask2 side count row₀ row = count - row
+μ-loop n p count row₀ row = count - row
 
 rows-requires : tie.Need-rows-requires Inv-loop μ-loop
-rows-requires c κs = c .pre .0
+rows-requires c κs = dimension-axes (c .args .n) (c .pre .0)
 
 loop-holds : tie.Need-loop-holds Inv-loop μ-loop
 loop-holds c = (omega arith, λ r l. absurd (omega arith))
 
 find-out-requires : tie.Need-find-out-requires Inv-loop μ-loop
-find-out-requires c κs = record { dimension = c .before .before .before .pre .0; inside = omega (arith, c .before .before .rows .ensures) }
+find-out-requires c κs = record { axes = dimension-axes (c .before .before .before .args .n) (c .before .before .before .pre .0); inside = omega (arith, c .before .before .rows .ensures) }
 
 returns : tie.Need-returns Inv-loop μ-loop
 returns c =
-    found (c .before .before .before .before .before .args .n) (c .before .before .before .loop .row) (c .before .find-out .result)
-    (record { dimension = c .before .before .before .before .before .pre .0; inside = omega (arith, c .before .before .before .before .rows .ensures) })
-    (c .if1 .taken)
-    (maskList (c .before .before .before .before .before .args .n) (c .before .before .before .before .before .args .mask1) (c .before .before .before .before .before .args .mask2)) (c .before .before .before .before .before .args .side)
-    (c .before .find-out .ensures .found (c .if1 .taken))
+    found (c .before .before .before .before .before .args .n) (c .before .before .before .loop .row) (c .before .find-out .result) (placeAs (c .before .before .before .before .before .args .n) (c .before .before .before .before .before .args .p))
+    (record { axes = dimension-axes (c .before .before .before .before .before .args .n) (c .before .before .before .before .before .pre .0); inside = omega (arith, c .before .before .before .before .rows .ensures) })
+    (c .if1 .taken) (c .before .find-out .ensures .found (c .if1 .taken))
 
 add-row : tie.Need-add-row Inv-loop μ-loop
 add-row c = record { fits = omega (arith, c .before .before .before .before .rows .ok) }
@@ -49,9 +46,7 @@ loop-again c = (omega arith, below-more _ _ (c .before .before .before .loop .in
 returns-2 : tie.Need-returns-2 Inv-loop μ-loop
 returns-2 c =
     absurd
-    (some-match (c .before .before .before .args .n) (c .before .before .before .pre .0) (maskList (c .before .before .before .args .n) (c .before .before .before .args .mask1) (c .before .before .before .args .mask2)) (c .before .before .before .args .side)
-    (length-maskList (c .before .before .before .args .n) (c .before .before .before .args .mask1) (c .before .before .before .args .mask2) (two-or-three (c .before .before .before .args .n) (c .before .before .before .pre .0)))
-    (c .before .before .before .pre .1 .0) (c .before .before .before .pre .1 .1)
+    (some-match (c .before .before .before .args .n) (c .before .before .before .pre .0) (placeAs (c .before .before .before .args .n) (c .before .before .before .args .p)) (c .before .before .before .pre .1)
     (λ r l k u. c .before .loop .inv .1 r (omega (arith, c .before .before .rows .ensures)) k u))
 
 pub find-spec : {M : Type 1} → statement M

@@ -4,18 +4,17 @@ use mathlib.Core.Path.{_≡_, sym, _∙_}
 use mathlib.Core.Bool.{false}
 use native.Mathlib.Omega.{arith}
 use borrow.Author.Count.{below-more}
-use Rattle.paper.specs.Cells.{maskList}
+use Rattle.places.specs.Held.{placeAs}
 use Rattle.simplices.specs.Search.{matches}
-use Rattle.orders.proofs.Rows.{dimension-small}
 use Rattle.simplices.proofs.search.find_out.Statement.{statement}
 use Rattle.simplices.proofs.search.find_out.Tie as tie
 
 abbrev Inv-loop : tie.InvT-loop
-Inv-loop n row mask1 mask2 side out₀ out =
-    (out ≤ suc n) × ((k : ℕ) → k < out → matches n row k (maskList n mask1 mask2) side ≡ false)
+Inv-loop n row p out₀ out =
+    (out ≤ suc n) × ((k : ℕ) → k < out → matches n row k (placeAs n p) ≡ false)
 
 abbrev μ-loop : tie.MeasureT-loop
-μ-loop n row mask1 mask2 side out₀ out = suc n - out
+μ-loop n row p out₀ out = suc n - out
 
 loop-holds : tie.Need-loop-holds Inv-loop μ-loop
 loop-holds c = (omega arith, λ k l. absurd (omega arith))
@@ -27,7 +26,7 @@ returns : tie.Need-returns Inv-loop μ-loop
 returns c = record { found = λ l. sym (c .before .matches .ensures) ∙ c .if1 .taken; none = λ l. absurd (omega arith) }
 
 add-out : tie.Need-add-out Inv-loop μ-loop
-add-out c = record { fits = omega (arith, dimension-small (c .before .before .before .before .args .n) (c .before .before .before .before .args .row) (c .before .before .before .before .pre) .0) }
+add-out c = record { fits = omega (arith, c .before .before .before .before .pre .axes .high) }
 
 loop-less : tie.Need-loop-less Inv-loop μ-loop
 loop-less c = omega arith

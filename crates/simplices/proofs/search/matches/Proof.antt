@@ -1,40 +1,30 @@
--- `search::matches` meets its contract: it compares the masks that the dimension has, and the side.
-use mathlib.Core.Path.{_≡_}
+-- `search::matches` meets its contract: the masks first, then the side.
+use mathlib.Core.Path.{sym, ap, ap₂, _∙_}
+use mathlib.Core.Bool.{_&&_}
+use lib.Dec.{eqb}
 use borrow.Author.Needs.{needs}
-use Rattle.paper.proofs.Tests.{dimension-not-two}
-use Rattle.simplices.proofs.Matching.{first-differs, two-agree, second-differs, three-agree}
+use Rattle.places.specs.Held.{placeAs, facetAs}
+use Rattle.orders.specs.Facets.{sideAt}
+use Rattle.simplices.specs.Search.{matches}
 use Rattle.simplices.proofs.search.matches.Statement.{statement}
 use Rattle.simplices.proofs.search.matches.Tie as tie
 
-shape-of-requires : tie.Need-shape-of-requires
-shape-of-requires c κs = search needs
+same-masks-requires : tie.Need-same-masks-requires
+same-masks-requires c κs = search needs
+
+side-requires : tie.Need-side-requires
+side-requires c κs = search needs
 
 returns : tie.Need-returns
+unfolding matches placeAs facetAs
 returns c =
-    first-differs (c .before .before .before .args .n) (c .before .before .before .args .row) (c .before .before .before .args .out) (c .before .before .before .pre .0) (c .before .before .before .pre .1) (c .before .before .shape-of .result .mask1) (c .before .before .shape-of .result .mask2) (c .before .before .shape-of .result .side)
-    (c .before .before .shape-of .ensures) (c .before .before .before .args .mask1) (c .before .before .before .args .mask2) (c .before .before .before .args .side)
-    (c .if1 .taken)
+    ap (λ s. eqb s (c .before .before .before .before .args .p .side)) (c .before .side .ensures)
+    ∙ ap (λ t. t && eqb (sideAt (c .before .before .before .before .args .n) (c .before .before .before .before .args .row) (c .before .before .before .before .args .out)) (c .before .before .before .before .args .p .side)) (sym (c .before .before .if1 .taken) ∙ c .before .before .before .same-masks .ensures)
 
 returns-2 : tie.Need-returns-2
+unfolding matches placeAs facetAs
 returns-2 c =
-    two-agree (c .before .before .before .before .before .args .n) (c .before .before .before .before .before .args .row) (c .before .before .before .before .before .args .out) (c .before .before .before .before .before .pre .0) (c .before .before .before .before .before .pre .1) (c .before .before .before .before .shape-of .result .mask1) (c .before .before .before .before .shape-of .result .mask2) (c .before .before .before .before .shape-of .result .side)
-    (c .before .before .before .before .shape-of .ensures) (c .before .before .before .before .before .args .mask1) (c .before .before .before .before .before .args .mask2) (c .before .before .before .before .before .args .side)
-    (c .before .if2 .taken) (c .before .before .if1 .left)
-
-three : (c : tie.Else2) → c .before .before .before .before .args .n ≡ 3
-three c = dimension-not-two (c .before .before .before .before .args .n) (c .before .before .before .before .pre .0 .dimension) (c .if2 .left)
-
-returns-3 : tie.Need-returns-3
-returns-3 c =
-    second-differs (c .before .before .before .before .before .before .args .n) (c .before .before .before .before .before .before .args .row) (c .before .before .before .before .before .before .args .out) (c .before .before .before .before .before .before .pre .0) (c .before .before .before .before .before .before .pre .1) (c .before .before .before .before .before .shape-of .result .mask1) (c .before .before .before .before .before .shape-of .result .mask2) (c .before .before .before .before .before .shape-of .result .side)
-    (c .before .before .before .before .before .shape-of .ensures) (c .before .before .before .before .before .before .args .mask1) (c .before .before .before .before .before .before .args .mask2) (c .before .before .before .before .before .before .args .side)
-    (three (c .before .before)) (c .before .before .before .if1 .left) (c .if3 .taken)
-
-returns-4 : tie.Need-returns-4
-returns-4 c =
-    three-agree (c .before .before .before .before .before .before .before .args .n) (c .before .before .before .before .before .before .before .args .row) (c .before .before .before .before .before .before .before .args .out) (c .before .before .before .before .before .before .before .pre .0) (c .before .before .before .before .before .before .before .pre .1) (c .before .before .before .before .before .before .shape-of .result .mask1) (c .before .before .before .before .before .before .shape-of .result .mask2) (c .before .before .before .before .before .before .shape-of .result .side)
-    (c .before .before .before .before .before .before .shape-of .ensures) (c .before .before .before .before .before .before .before .args .mask1) (c .before .before .before .before .before .before .before .args .mask2) (c .before .before .before .before .before .before .before .args .side)
-    (three (c .before .before .before)) (c .before .before .before .before .if1 .left) (c .before .if3 .left)
+    ap (λ t. t && eqb (sideAt (c .before .before .args .n) (c .before .before .args .row) (c .before .before .args .out)) (c .before .before .args .p .side)) (sym (c .if1 .left) ∙ c .before .same-masks .ensures)
 
 pub matches-spec : {M : Type 1} → statement M
-matches-spec = tie.close (tie.spec shape-of-requires returns returns-2 returns-3 returns-4)
+matches-spec = tie.close (tie.spec same-masks-requires side-requires returns returns-2)

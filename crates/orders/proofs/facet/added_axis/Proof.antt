@@ -1,4 +1,4 @@
--- `shapes::added_axis` meets its contract: two vertices in a row differ by one axis of the order, the lowest of that mask.
+-- `facet::added_axis` meets its contract: two vertices in a row differ by one axis of the order, the lowest of that mask.
 use mathlib.Core.Path.{_≡_, sym, ap, _∙_}
 use mathlib.Core.List.{[]}
 use Prim.Native.Nat.{_+_, _^_}
@@ -8,10 +8,10 @@ use borrow.Author.Needs.{needs}
 use Rattle.curves.specs.Grid.{axes}
 use Rattle.curves.proofs.MaskAxes.{axes-power}
 use Rattle.orders.specs.Table.{orderAt, axisAt, vertexMask}
-use Rattle.orders.proofs.Rows.{row-length, axis-under, dimension-small}
+use Rattle.orders.proofs.Rows.{row-length, axis-under}
 use Rattle.orders.proofs.VertexMasks.{vertexMask-step}
-use Rattle.orders.proofs.shapes.added_axis.Statement.{statement}
-use Rattle.orders.proofs.shapes.added_axis.Tie as tie
+use Rattle.orders.proofs.facet.added_axis.Statement.{statement}
+use Rattle.orders.proofs.facet.added_axis.Tie as tie
 
 add-vertex-mask : tie.Need-add-vertex-mask
 add-vertex-mask c = search needs
@@ -45,7 +45,7 @@ returns : tie.Need-returns
 returns c =
     let n = c .before .before .before .args .n in
     let a = axisAt n (c .before .before .before .args .row) (c .before .before .before .args .k) in
-    c .axis-of .ensures n a [] (omega (arith, dimension-small n (c .before .before .before .args .row) (c .before .before .before .pre .0) .0))
+    c .axis-of .ensures n a [] (omega (arith, c .before .before .before .pre .0 .axes .high))
     (ap (axes n) (omega (arith, upper-is (c .before)))
     ∙ axes-power n a (axis-under n (c .before .before .before .args .row) (c .before .before .before .args .k) (c .before .before .before .pre .0) (c .before .before .before .pre .1)))
 

@@ -1,0 +1,61 @@
+-- Masks and side of a simplex's facet do not depend on its corner (`place-anywhere`), the lowest vertex gives the corner back
+-- (`low-corner`), and lowest vertex, masks and side of a row's facet are the place (`place-is`).
+use Prim.Native.Nat.{ℕ, suc, zero, _-_, _≤_, _<_}
+use mathlib.Core.Path.{_≡_, refl, sym, ap, ap₂, _∙_}
+use mathlib.Core.List.{List, [], _∷_}
+use native.Mathlib.Omega.{arith}
+use lib.ListN.{take}
+use Rattle.curves.specs.Grid.{Place, placeAt}
+use Rattle.curves.specs.Grid as Grid
+use Rattle.curves.proofs.Vertices.{up-down}
+use Rattle.curves.proofs.IncidenceOk.{side-of-under}
+use Rattle.places.specs.declared.Vertex.{Vertex}
+use Rattle.places.specs.declared.HeldPlace.{HeldPlace}
+use Rattle.places.specs.Held.{vertexAs, masksAs, facetAs, placeAs}
+use Rattle.orders.specs.Table.{orderAt, InTable}
+use Rattle.orders.specs.Facets.{masksAt, sideAt, facetMask}
+use Rattle.orders.specs.Corners.{coordinates, cornerUnder, lowOver, PlaceIs}
+use Rattle.orders.proofs.FacetMasks.{masks-are}
+use Rattle.orders.proofs.Moves.{low-vertex}
+
+-- a place
+abbrev pub placed : Grid.Vertex → List ℕ → ℕ → Place
+placed v ms s = record { facet = record { low = v; masks = ms }; side = s }
+
+pub place-anywhere :
+    (c : Grid.Vertex) (o : List ℕ) (i : ℕ)
+    → placeAt c o i ≡ placed (lowOver c o i) (placeAt [] o i .facet .masks) (placeAt [] o i .side)
+unfolding placeAt lowOver
+place-anywhere c [] i = refl
+place-anywhere c (a ∷ o) zero = refl
+place-anywhere c (a ∷ o) (suc i) = refl
+
+pub low-corner : (v : Grid.Vertex) (o : List ℕ) (i : ℕ) → lowOver (cornerUnder v o i) o i ≡ v
+unfolding lowOver cornerUnder
+low-corner v [] i = refl
+low-corner v (a ∷ o) zero = up-down a v
+low-corner v (a ∷ o) (suc i) = refl
+
+-- the side is 0 or 1
+pub side-under : (c : Grid.Vertex) (o : List ℕ) (i : ℕ) → placeAt c o i .side < 2
+unfolding placeAt
+side-under c [] i = omega arith
+side-under c (a ∷ o) zero = omega arith
+side-under c (a ∷ o) (suc i) = side-of-under i (a ∷ o)
+
+pub place-is :
+    (n : ℕ) (corner : Vertex) (row out : ℕ) (r : HeldPlace) → InTable n row → out ≤ n
+    → coordinates (r .low) ≡ lowOver (coordinates corner) (orderAt n row) out
+    → r .mask1 ≡ facetMask n row out 1 → r .mask2 ≡ facetMask n row out 2 → r .mask3 ≡ facetMask n row out 3
+    → r .side ≡ sideAt n row out
+    → PlaceIs n corner row out (placeAt (vertexAs n corner) (orderAt n row) out) r
+unfolding placeAs facetAs masksAs masksAt sideAt
+place-is n corner row out r h l e e1 e2 e3 s =
+    record {
+      is =
+          ap₂ (λ v ms. placed v ms (r .side)) (low-vertex corner (r .low) (orderAt n row) out e n)
+          (ap₂ (λ m ms. take (n - 1) (m ∷ ms)) e1 (ap₂ (λ m k. m ∷ k ∷ []) e2 e3) ∙ sym (masks-are n row out h l))
+          ∙ ap (placed (lowOver (vertexAs n corner) (orderAt n row) out) (masksAt n row out)) s
+          ∙ sym (place-anywhere (vertexAs n corner) (orderAt n row) out);
+      low = e;
+    }

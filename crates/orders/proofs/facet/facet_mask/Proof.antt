@@ -1,0 +1,65 @@
+-- `facet::facet_mask` meets its contract: vertex masks rise, so the difference does not wrap (`skip-rises`).
+use mathlib.Core.Path.{_≡_, ap, ap₂, _∙_}
+use Prim.Native.Nat.{_-_}
+use native.Mathlib.Omega.{arith}
+use borrow.Author.Needs.{needs}
+use Rattle.exact.specs.Minors.{skip}
+use Rattle.exact.proofs.Position.{skip-le}
+use Rattle.orders.specs.Table.{orderAt, vertexMask}
+use Rattle.orders.specs.Facets.{facetMask}
+use Rattle.orders.proofs.Rows.{row-length}
+use Rattle.orders.proofs.FacetMasks.{skip-rises, no-mask}
+use Rattle.orders.proofs.facet.facet_mask.Statement.{statement}
+use Rattle.orders.proofs.facet.facet_mask.Tie as tie
+
+returns : tie.Need-returns
+returns c =
+    no-mask (c .before .args .n) (c .before .args .row) (c .before .args .out) (c .before .pre .0) (c .before .pre .1 .0) (c .before .args .i) (c .if1 .taken)
+
+skip-requires : tie.Need-skip-requires
+skip-requires c κs = search needs
+
+vertex-mask-requires : tie.Need-vertex-mask-requires
+vertex-mask-requires c κs =
+    (c .before .before .pre .0, omega (arith, c .skip .ensures, skip-le (c .before .before .args .n) (c .before .before .args .out) (c .before .before .args .i) (c .before .before .pre .1 .0) (c .before .if1 .left)))
+
+skip-requires-2 : tie.Need-skip-requires-2
+skip-requires-2 c κs = search needs
+
+vertex-mask-requires-2 : tie.Need-vertex-mask-requires-2
+vertex-mask-requires-2 c κs =
+    (c .before .before .before .before .pre .0, omega (arith, c .skip2 .ensures, skip-le (c .before .before .before .before .args .n) (c .before .before .before .before .args .out) 0 (c .before .before .before .before .pre .1 .0) (omega (arith, c .before .before .before .before .pre .0 .axes .low))))
+
+-- the two results
+first-is :
+    (c : tie.After-vertex-mask2)
+    → c .before .before .vertex-mask .result
+    ≡ vertexMask (orderAt (c .before .before .before .before .before .args .n) (c .before .before .before .before .before .args .row)) (skip (c .before .before .before .before .before .args .out) (c .before .before .before .before .before .args .i))
+first-is c = c .before .before .vertex-mask .ensures ∙ ap (vertexMask _) (c .before .before .before .skip .ensures)
+
+low-is :
+    (c : tie.After-vertex-mask2)
+    → c .vertex-mask2 .result ≡ vertexMask (orderAt (c .before .before .before .before .before .args .n) (c .before .before .before .before .before .args .row)) (skip (c .before .before .before .before .before .args .out) 0)
+low-is c = c .vertex-mask2 .ensures ∙ ap (vertexMask _) (c .before .skip2 .ensures)
+
+sub-result : tie.Need-sub-result
+sub-result c =
+    rw (first-is c, low-is c)
+    (skip-rises (orderAt (c .before .before .before .before .before .args .n) (c .before .before .before .before .before .args .row)) (c .before .before .before .before .before .args .out) (c .before .before .before .before .before .args .i)
+    (omega (arith, row-length (c .before .before .before .before .before .args .n) (c .before .before .before .before .before .args .row) (c .before .before .before .before .before .pre .0), c .before .before .before .before .before .pre .1 .0)) (omega (arith, c .before .before .before .before .if1 .left, row-length (c .before .before .before .before .before .args .n) (c .before .before .before .before .before .args .row) (c .before .before .before .before .before .pre .0))))
+
+returns-2 : tie.Need-returns-2
+unfolding facetMask
+returns-2 c = ap₂ (λ x y. x - y) (first-is c) (low-is c)
+
+pub facet-mask-spec : {M : Type 1} → statement M
+facet-mask-spec =
+    tie.close
+    (tie.spec
+    returns
+    skip-requires
+    vertex-mask-requires
+    skip-requires-2
+    vertex-mask-requires-2
+    sub-result
+    returns-2)

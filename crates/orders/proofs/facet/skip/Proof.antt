@@ -1,0 +1,19 @@
+-- `facet::skip` meets its contract: below the element left out an index stays, from it on it is one further.
+use mathlib.Core.Path.{sym}
+use native.Mathlib.Omega.{arith}
+use Rattle.exact.proofs.Position.{skip-below, skip-above}
+use borrow.Author.Needs.{needs}
+use Rattle.orders.proofs.facet.skip.Statement.{statement}
+use Rattle.orders.proofs.facet.skip.Tie as tie
+
+returns : tie.Need-returns
+returns c = sym (skip-below (c .before .args .out) (c .before .args .i) (c .if1 .taken))
+
+add-result : tie.Need-add-result
+add-result c = search needs
+
+returns-2 : tie.Need-returns-2
+returns-2 c = let e = skip-above (c .before .args .out) (c .before .args .i) (c .if1 .left) in omega arith
+
+pub skip-spec : {M : Type 1} → statement M
+skip-spec = tie.close (tie.spec returns add-result returns-2)

@@ -1,0 +1,60 @@
+// The place of a simplex without one vertex, with any corner.
+
+ghost use mathlib.Core.Path.{_≡_};
+ghost use Prim.Native.Nat.{_≤_, _<_};
+ghost use Rattle.exact.specs.Size.{Size};
+ghost use Rattle.curves.specs.Grid.{placeAt};
+ghost use Rattle.places.specs.Held.{vertexAs, VertexSize};
+ghost use Rattle.orders.specs.Table.{InTable, orderAt};
+ghost use Rattle.orders.specs.Corners.{moveLimit, coordinates, addOn, lowOver, PlaceIs};
+use crate::facet;
+use crate::table;
+use places::HeldPlace;
+use places::Vertex;
+
+// The vertex with d added on one axis.
+pub fn moved(v: Vertex, axis: u64, d: i64) -> Vertex
+    requires { ⌜ (VertexSize moveLimit v) × ((axis < 4) × (Size 1 d)) ⌝ }
+    ensures { λ r. ⌜ coordinates r ≡ addOn axis d (coordinates v) ⌝ }
+{
+    let mut r = v;
+    if axis == 0 {
+        r.x = v.x + d;
+        return r;
+    }
+    if axis == 1 {
+        r.y = v.y + d;
+        return r;
+    }
+    if axis == 2 {
+        r.z = v.z + d;
+        return r;
+    }
+    r.w = v.w + d;
+    r
+}
+
+// The lowest vertex of the facet without vertex `out`.
+pub fn lowest(n: usize, corner: Vertex, row: usize, out: usize) -> Vertex
+    requires { ⌜ (InTable n row) × (VertexSize moveLimit corner) ⌝ }
+    ensures { λ r. ⌜ coordinates r ≡ lowOver (coordinates corner) (orderAt n row) out ⌝ }
+{
+    if out == 0 {
+        return moved(corner, table::axis(n, row, 0), 1);
+    }
+    corner
+}
+
+// The place whose side is the simplex with a corner and a row's order, and whose facet leaves out vertex `out`.
+pub fn place_at(n: usize, corner: Vertex, row: usize, out: usize) -> HeldPlace
+    requires { ⌜ (InTable n row) × ((out ≤ n) × (VertexSize moveLimit corner)) ⌝ }
+    ensures { λ r. ⌜ PlaceIs n corner row out (placeAt (vertexAs n corner) (orderAt n row) out) r ⌝ }
+{
+    HeldPlace {
+        low: lowest(n, corner, row, out),
+        mask1: facet::facet_mask(n, row, out, 1),
+        mask2: facet::facet_mask(n, row, out, 2),
+        mask3: facet::facet_mask(n, row, out, 3),
+        side: facet::side(n, row, out),
+    }
+}
