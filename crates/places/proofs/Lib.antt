@@ -1,1 +1,7 @@
--- Laws of vertices and places as the code holds them.
+-- Laws of vertices and places as the code holds them, a file for each idea.
+pub mod ChainSteps
+pub mod PlaceReading
+pub mod WordBytes
+pub mod PlaceStored
+pub mod SameNumbers
+pub mod PlaceAnswered
