@@ -1,4 +1,3 @@
--- How the code holds columns, and what the contracts of the functions over a job ask and promise.
-pub mod Columns
-pub mod Ask
-pub mod Post
+-- The vertices that a base and masks name, and what the functions promise of their columns.
+pub mod Vertices
+pub mod Found

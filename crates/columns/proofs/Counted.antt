@@ -1,4 +1,4 @@
--- Lists made of the values of a function at 0, 1, .., m − 1: a test of every member, and equality, go by the index.
+-- Lists of the values of a function at 0, 1, .., m − 1: a test of every member, and equality, go by the index.
 use mathlib.Core.Path.{_≡_, refl, sym, ap, ap₂, _∙_}
 use mathlib.Core.Bool.{Bool, true, false, _&&_}
 use mathlib.Core.List.{List, [], _∷_, map}
@@ -6,9 +6,13 @@ use Prim.Native.Nat.{ℕ, suc, zero, _+_, _≤_, _<_}
 use native.Mathlib.Omega.{arith}
 use lib.Dec.{eqb}
 use borrow.Author.Tests.{eqb-true, eqb-false}
-use Rattle.exact.specs.Crossed.{countFrom}
+use Rattle.exact.specs.Crossed.{countFrom, remove}
 use Rattle.curves.specs.Step.{every}
 use Rattle.paper.proofs.Tests.{and-true}
+
+and-false : (a b : Bool) → b ≡ false → (a && b) ≡ false
+and-false true b e = e
+and-false false b e = refl
 
 module _ {A : Type 0} (t : A → Bool) (f : ℕ → A) where
   every-from : (k m : ℕ) → ((i : ℕ) → k ≤ i → i < k + m → t (f i) ≡ true) → every t (map f (countFrom k m)) ≡ true
@@ -19,10 +23,6 @@ module _ {A : Type 0} (t : A → Bool) (f : ℕ → A) where
 
   pub every-all : (m : ℕ) → ((i : ℕ) → i < m → t (f i) ≡ true) → every t (map f (countFrom 0 m)) ≡ true
   every-all m h = every-from 0 m (λ i l u. h i (omega arith))
-
-  and-false : (a b : Bool) → b ≡ false → (a && b) ≡ false
-  and-false true b e = e
-  and-false false b e = refl
 
   fails-from : (k m i : ℕ) → k ≤ i → i < k + m → t (f i) ≡ false → every t (map f (countFrom k m)) ≡ false
   unfolding every countFrom
@@ -38,15 +38,12 @@ module _ {A : Type 0} (t : A → Bool) (f : ℕ → A) where
   pub every-fails : (m i : ℕ) → i < m → t (f i) ≡ false → every t (map f (countFrom 0 m)) ≡ false
   every-fails m i l h = fails-from 0 m i (omega arith) (omega arith) h
 
-  every-at-from : (k m i : ℕ) → every t (map f (countFrom k m)) ≡ true → k ≤ i → i < k + m → t (f i) ≡ true
-  every-at-from k m i h l u = go (t (f i)) refl
+  pub every-at : (m i : ℕ) → every t (map f (countFrom 0 m)) ≡ true → i < m → t (f i) ≡ true
+  every-at m i h l = go (t (f i)) refl
     where
       go : (b : Bool) → t (f i) ≡ b → b ≡ true
       go true e = refl
-      go false e = sym (fails-from k m i l u e) ∙ h
-
-  pub every-at : (m i : ℕ) → every t (map f (countFrom 0 m)) ≡ true → i < m → t (f i) ≡ true
-  every-at m i h l = every-at-from 0 m i h (omega arith) (omega arith)
+      go false e = sym (every-fails m i l e) ∙ h
 
 module _ {A : Type 0} (f g : ℕ → A) where
   same-from : (k m : ℕ) → ((i : ℕ) → k ≤ i → i < k + m → f i ≡ g i) → map f (countFrom k m) ≡ map g (countFrom k m)
@@ -62,3 +59,18 @@ module _ {A : Type 0} (f g : ℕ → A) where
 pub map-map : {A B : Type 0} (g : A → B) (f : ℕ → A) (ks : List ℕ) → map g (map f ks) ≡ map (λ k. g (f k)) ks
 map-map g f [] = refl
 map-map g f (k ∷ ks) = ap (λ l. g (f k) ∷ l) (map-map g f ks)
+
+module _ {A : Type 0} (f : ℕ → A) where
+  -- counted from one more
+  pub count-shifted : (k m : ℕ) → map f (countFrom (suc k) m) ≡ map (λ i. f (i + 1)) (countFrom k m)
+  unfolding countFrom
+  count-shifted k zero = refl
+  count-shifted k (suc m) =
+      let e : suc k ≡ k + 1 = omega arith in
+      ap₂ _∷_ (ap f e) (count-shifted (suc k) m)
+
+  -- without the last
+  pub remove-last : (k m : ℕ) → remove m (map f (countFrom k (suc m))) ≡ map f (countFrom k m)
+  unfolding countFrom remove
+  remove-last k zero = refl
+  remove-last k (suc m) = ap (λ l. f k ∷ l) (remove-last (suc k) m)
