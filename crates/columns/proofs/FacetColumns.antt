@@ -40,6 +40,16 @@ zero-cells a = record { axes = a; count = refl; entries = λ k. rw nought (size-
 
 -- ---- the vertices
 
+-- every index from 4 on has the last mask
+pub mask-last : (m1 m2 m3 m4 k : ℕ) → 4 ≤ k → m4 ≡ maskAt m1 m2 m3 m4 k
+unfolding maskAt
+mask-last m1 m2 m3 m4 zero l = absurd (omega arith)
+mask-last m1 m2 m3 m4 (suc zero) l = absurd (omega arith)
+mask-last m1 m2 m3 m4 (suc (suc zero)) l = absurd (omega arith)
+mask-last m1 m2 m3 m4 (suc (suc (suc zero))) l = absurd (omega arith)
+mask-last m1 m2 m3 m4 (suc (suc (suc (suc zero)))) l = refl
+mask-last m1 m2 m3 m4 (suc (suc (suc (suc (suc k))))) l = refl
+
 pub facet-list : (n : ℕ) → Axes n → (p : HeldPlace) (m : ℕ) → vertexList n (p .low) (p .mask1) (p .mask2) (p .mask3) m n ≡ facetVertices (facetAs n p)
 unfolding vertexList vertexAt maskAt countFrom facetVertices facetAs masksAs
 facet-list n a p m =

@@ -1,13 +1,13 @@
 -- The cells while columns are put in, one vertex after the other, and what stops it.
-use mathlib.Core.Path.{_≡_, refl, sym, _∙_}
-use mathlib.Core.Bool.{Bool, true, false, cond, false≢true}
+use mathlib.Core.Path.{_≡_, refl, sym, ap, _∙_}
+use mathlib.Core.Bool.{Bool, true, false, false≢true}
 use mathlib.Core.List.{List, map}
 use Prim.Native.Nat.{ℕ, _+_, _*_, _-_, _≤_, _<_}
 use native.Mathlib.Omega.{arith}
 use lib.IntN.{ℤ}
 use lib.ListN.{getD}
 use borrow.Author.Count.{below-none, below-more}
-use Rattle.exact.specs.Int.{0ℤ, 1ℤ}
+use Rattle.exact.specs.Int.{0ℤ}
 use Rattle.exact.specs.Crossed.{countFrom}
 use Rattle.curves.specs.Grid.{Vertex}
 use Rattle.curves.specs.Step.{column, columns, every}
@@ -15,6 +15,14 @@ use Rattle.paper.specs.Values.{fieldOf}
 use Rattle.facets.specs.Cells.{columnAt, Cells}
 use Rattle.columns.specs.Found.{ValuesPut, ColumnsPut, stopNumber, ColumnsFound}
 use Rattle.columns.proofs.Counted.{every-all, every-fails, same-each, map-map}
+
+-- a test of a vertex, and what is put in for it, under another name for the vertex
+pub at-vertex : (t : Vertex → Bool) {u v : Vertex} {r b : Bool} → u ≡ v → r ≡ t u → r ≡ b → t v ≡ b
+at-vertex t e f g = ap t (sym e) ∙ sym f ∙ g
+
+pub put-vertex : {s : List ℕ} {n k : ℕ} {u v : Vertex} {before after : List ℤ} {r : Bool} → u ≡ v → ValuesPut s n u k before r after
+    → ValuesPut s n v k before r after
+put-vertex e h = rw (← e) h
 
 -- the columns of the vertices f q for q < k are in, and their values are readable
 pub record Filling (s : List ℕ) (n : ℕ) (f : ℕ → Vertex) (before : List ℤ) (k : ℕ) (here : List ℤ) : Type 0 where
