@@ -1,4 +1,4 @@
--- How the code holds columns, and what the contracts of the functions over a job ask and promise.
-pub mod Columns
-pub mod Ask
-pub mod Post
+-- What the functions ask and promise, beside the definitions of the crates below.
+pub mod Moves
+pub mod Box
+pub mod Sums

@@ -1,0 +1,70 @@
+-- What a job that opens gives: its box and its polynomials are as the functions over them ask, a vertex in its box is near, and a value of a
+-- readable sum is within the limit of the cells.
+use mathlib.Core.Path.{_≡_, subst}
+use mathlib.Core.Logic.{_⊎_, inl, inr}
+use mathlib.Core.Bool.{true}
+use mathlib.Core.List.{List}
+use Prim.Native.Nat.{ℕ, _*_, _≤_, _<_}
+use lib.IntN.{ℤ}
+use lib.ListN.{length}
+use lib.Dec.{lit≤}
+use borrow.Author.Tests.{leb-true}
+use Rattle.exact.specs.Size.{Size}
+use Rattle.exact.proofs.SizeLaws.{size-weaken}
+use Rattle.paper.specs.Limits.{dimensionOk, readableLimit}
+use Rattle.paper.specs.Job.{dimension, body}
+use Rattle.paper.specs.Values.{readableSum, valueOf, fieldOf}
+use Rattle.paper.proofs.Tests.{two-or-three}
+use Rattle.paper.proofs.Opens.{Opens, opens}
+use Rattle.paper.proofs.Bodies.{box-length, terms-high}
+use Rattle.bits.specs.Axes.{Axes}
+use Rattle.bits.proofs.EachDimension.{dimension-axes}
+use Rattle.places.specs.declared.Vertex.{Vertex}
+use Rattle.places.specs.Held.{vertexAs}
+use Rattle.job.specs.OpenJob.{JobOf}
+use Rattle.values.specs.Box.{Near}
+use Rattle.values.specs.Sums.{Polynomial}
+use Rattle.values.proofs.Inside.{inside-near}
+use Rattle.facets.specs.Cells.{entryLimit}
+
+-- readable values are within the limit of the cells, in the dimensions of a job
+readable-entry : (n : ℕ) → dimensionOk n ≡ true → readableLimit n ≤ entryLimit n
+unfolding readableLimit entryLimit
+readable-entry n d = go (two-or-three n d)
+  where
+    go : (n ≡ 2) ⊎ (n ≡ 3) → readableLimit n ≤ entryLimit n
+    go (inl e) = rw e (lit≤ tt)
+    go (inr e) = rw e (lit≤ tt)
+
+module _ {n : ℕ} {s : List ℕ} (j : JobOf n s) where
+  opened : Opens s
+  opened = opens s (j .opens)
+
+  job-dimension : dimensionOk n ≡ true
+  job-dimension = rw (j .dimension) (opened .dimensions)
+
+  pub job-axes : Axes n
+  job-axes = dimension-axes n job-dimension
+
+  -- the box, under another name for its bytes
+  pub job-box : {b : List ℕ} → b ≡ body s 0 → length b ≡ 4 * n
+  job-box e = rw (e, j .dimension) (box-length opened)
+
+  pub job-polynomial : {b : List ℕ} (k : ℕ) → 0 < k → k < n → b ≡ body s k → Polynomial n b
+  job-polynomial k l u e =
+      let inner : k < dimension s = subst (λ (m : ℕ). k < m) (j .dimension) u in
+      rw e (record {
+        axes = job-axes;
+        terms = rw (j .dimension) (opened .polynomial k l inner);
+        count = rw (j .dimension) (terms-high opened k l inner);
+      })
+
+  pub job-near : (v : Vertex) → fieldOf s .inBox (vertexAs n v) ≡ true → Near n v
+  unfolding fieldOf
+  job-near v h = inside-near n (body s 0) v job-axes (rw (j .dimension) (opened .box)) h
+
+  pub job-value : (z : ℤ) → readableSum n z ≡ true → Size (entryLimit n) (valueOf z)
+  unfolding readableSum valueOf
+  job-value z h =
+      let s : Size (readableLimit n) z = record { size = leb-true _ _ h } in
+      size-weaken s (readable-entry n job-dimension)

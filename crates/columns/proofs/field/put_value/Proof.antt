@@ -1,0 +1,48 @@
+-- `field::put_value` meets its contract: body k is the polynomial.
+use native.Mathlib.Omega.{arith}
+use borrow.Author.Needs.{needs}
+use borrow.Author.Tests.{not-true, not-false}
+use Rattle.columns.proofs.OpenedJob.{job-polynomial, job-near}
+use Rattle.columns.proofs.PutValue.{sum-passed, value-refused, value-put}
+use Rattle.columns.proofs.field.put_value.Statement.{statement}
+use Rattle.columns.proofs.field.put_value.Tie as tie
+
+opened-body-requires : tie.Need-opened-body-requires
+opened-body-requires c κs = (c .before .pre .0 .0 .opens, omega (arith, c .before .pre .0 .0 .dimension, c .before .pre .1 .1 .0))
+
+raw-sum-requires : tie.Need-raw-sum-requires
+raw-sum-requires c κs =
+    (job-polynomial (c .before .before .pre .0 .0) _ (c .before .before .pre .1 .0) (c .before .before .pre .1 .1 .0) (c .opened-body .ensures), job-near (c .before .before .pre .0 .0) _ (c .before .before .pre .0 .1))
+
+readable-requires : tie.Need-readable-requires
+readable-requires c κs = sum-passed _ _ (c .raw-sum .ensures)
+
+returns : tie.Need-returns
+returns c =
+    value-refused _ _ _ (c .before .before .before .opened-body .ensures) (c .before .before .raw-sum .ensures) _ _ _ (c .before .readable .ensures) (not-true _ (c .if1 .taken))
+
+value-of-requires : tie.Need-value-of-requires
+value-of-requires c κs = sum-passed _ _ (c .before .before .raw-sum .ensures)
+
+mul-found : tie.Need-mul-found
+mul-found c = search needs
+
+element-set-from-found : tie.Need-element-set-from-found
+element-set-from-found c = c .before .before .before .before .before .before .pre .1 .1 .1
+
+returns-2 : tie.Need-returns-2
+returns-2 c =
+    value-put _ _ _ (c .before .before .before .before .opened-body .ensures) (c .before .before .before .raw-sum .ensures) _ _ _ (c .before .before .readable .ensures) (not-false _ (c .before .if1 .left)) (c .value-of .ensures)
+
+pub put-value-spec : {M : Type 1} → statement M
+put-value-spec =
+    tie.close
+    (tie.spec
+    opened-body-requires
+    raw-sum-requires
+    readable-requires
+    returns
+    value-of-requires
+    mul-found
+    element-set-from-found
+    returns-2)

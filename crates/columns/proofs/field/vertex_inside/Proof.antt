@@ -1,0 +1,23 @@
+-- `field::vertex_inside` meets its contract: the box is body 0.
+use mathlib.Core.Path.{ap, _∙_}
+use mathlib.Core.List.{List}
+use Prim.Native.Nat.{ℕ}
+use Rattle.paper.specs.Values.{insideFrom, fieldOf}
+use Rattle.places.specs.Held.{vertexAs}
+use Rattle.columns.proofs.OpenedJob.{job-axes, job-box}
+use borrow.Author.Needs.{needs}
+use Rattle.columns.proofs.field.vertex_inside.Statement.{statement}
+use Rattle.columns.proofs.field.vertex_inside.Tie as tie
+
+opened-body-requires : tie.Need-opened-body-requires
+opened-body-requires c κs = search needs
+
+inside-requires : tie.Need-inside-requires
+inside-requires c κs = (job-axes (c .before .before .pre), job-box (c .before .before .pre) (c .opened-body .ensures))
+
+returns : tie.Need-returns
+unfolding fieldOf
+returns c = c .inside .ensures ∙ ap (λ (b : List ℕ). insideFrom b 0 (vertexAs (c .before .before .before .args .n) (c .before .before .before .args .v))) (c .before .opened-body .ensures .1)
+
+pub vertex-inside-spec : {M : Type 1} → statement M
+vertex-inside-spec = tie.close (tie.spec opened-body-requires inside-requires returns)

@@ -1,0 +1,54 @@
+// One vertex of a job that has opened: in the box or not, and its values put into the cells.
+ghost use mathlib.Core.Path.{_≡_};
+ghost use mathlib.Core.Bool.{true};
+ghost use Prim.Native.Nat.{_<_};
+ghost use Rattle.paper.specs.Values.{fieldOf};
+ghost use Rattle.places.specs.Held.{vertexAs};
+ghost use Rattle.job.specs.OpenJob.{JobOf};
+ghost use Rattle.facets.specs.Cells.{Cells};
+ghost use Rattle.columns.specs.Found.{ValuePut, ValuesPut};
+use places::Vertex;
+use values::lattice;
+use values::polynomial;
+use values::value;
+
+// The vertex lies in the job's box.
+pub fn vertex_inside(job: &[u8], n: usize, v: Vertex) -> bool
+    requires { ⌜ JobOf n (now job) ⌝ }
+    ensures { λ r. ⌜ r ≡ fieldOf (now (job .entry)) .inBox (vertexAs n v) ⌝ }
+{
+    let bounds = job::opened_body(job, 0);
+    lattice::inside(bounds, n, v)
+}
+
+// The value of polynomial k at a vertex in the box, put into one cell if its sum is readable.
+fn put_value(job: &[u8], n: usize, v: Vertex, k: usize, at: usize, cells: &mut [i64; 15]) -> bool
+    requires { ⌜ (JobOf n (now job)) × (fieldOf (now job) .inBox (vertexAs n v) ≡ true) ⌝ }
+    requires { ⌜ (0 < k) × ((k < n) × (at < 15)) ⌝ }
+    ensures { λ r. ⌜ ValuePut (now (job .entry)) n (vertexAs n v) k at (now (cells .entry)) r (now (cells .exit)) ⌝ }
+{
+    let body = job::opened_body(job, k);
+    let sum = polynomial::raw_sum(body, n, v);
+    if !value::readable(n, sum) {
+        return false;
+    }
+    let found = value::value_of(sum);
+    cells[at] = found;
+    true
+}
+
+// The values of a vertex in the box, put in as those of vertex i if its sums are readable.
+pub fn put_values(job: &[u8], n: usize, v: Vertex, i: usize, cells: &mut [i64; 15]) -> bool
+    requires { ⌜ (JobOf n (now job)) × (fieldOf (now job) .inBox (vertexAs n v) ≡ true) ⌝ }
+    requires { ⌜ (i < 5) × (Cells n (now cells)) ⌝ }
+    ensures { λ r. ⌜ ValuesPut (now (job .entry)) n (vertexAs n v) i (now (cells .entry)) r (now (cells .exit)) ⌝ }
+{
+    let mut j: usize = 0;
+    while j + 1 < n {
+        if !put_value(job, n, v, j + 1, 3 * i + j, cells) {
+            return false;
+        }
+        j += 1;
+    }
+    true
+}

@@ -1,0 +1,122 @@
+-- The terms of a polynomial that has passed Open's tests, at the vertex of the tables of powers: a term's bytes lie inside the body, the
+-- exponents together are within the degree's limit, and so are the products within theirs.
+use mathlib.Core.Path.{_≡_}
+use mathlib.Core.List.{List, [], _∷_}
+use Prim.Native.Nat.{ℕ, _+_, _*_, _^_, _≤_, _<_}
+use native.Mathlib.Omega.{arith}
+use native.Mathlib.Nat.{le-trans}
+use lib.IntN.{ℤ, _*ℤ_}
+use lib.ListN.{length}
+use lib.Dec.{lit≤}
+use mir.Syntax.{w64}
+use mir.Val.{SFits}
+use Rattle.exact.specs.Int.{_⊗_, power}
+use Rattle.exact.specs.Size.{Size, Is}
+use Rattle.exact.proofs.Ring.{mul-one}
+use Rattle.exact.proofs.SizeLaws.{size-weaken}
+use Rattle.exact.proofs.Bits.{Holds, holds-call, back, fits-mul, holds-mul}
+use Rattle.paper.specs.Limits.{coordinateLimit, coefficientLimit, degreeLimit}
+use Rattle.paper.specs.Job.{termCount, exponentOf, coefficientOf, degree}
+use Rattle.paper.specs.Values.{monomial, termValue}
+use Rattle.paper.proofs.Terms.{polynomial-term, exponent-degree}
+use Rattle.values.specs.Sums.{monomialLimit, termSize, Polynomial, base, tabled}
+use Rattle.values.proofs.Limits.{coefficient-word, monomial-word, term-word}
+use Rattle.values.proofs.Powers.{power-bound, power-word, powers-fit, powers-product}
+
+-- a term's eight bytes lie inside the body
+pub term-inside : (b : List ℕ) (i : ℕ) → i < termCount b → 8 * i + 8 ≤ length b
+unfolding termCount
+term-inside b i l = omega arith
+
+-- ---- exponents
+
+pub record Exponents (b : List ℕ) (i : ℕ) : Type 0 where
+  pub sum : exponentOf b i 0 + exponentOf b i 1 + exponentOf b i 2 + exponentOf b i 3 ≤ degreeLimit
+  pub each : (a : ℕ) → a < 4 → exponentOf b i a ≤ degreeLimit
+  pub coefficient : Size coefficientLimit (coefficientOf b i)
+
+pub exponents : {n : ℕ} {b : List ℕ} (p : Polynomial n b) (i : ℕ) → i < termCount b → Exponents b i
+unfolding degree
+exponents {n} {b} p i l =
+    let t = polynomial-term n b (p .terms) i (p .axes .high) l in
+    record {
+      sum = t .sum;
+      each = λ a h. le-trans (exponent-degree b i a h) (t .sum);
+      coefficient = record { size = t .size };
+    }
+
+-- ---- the product of the powers
+
+is-weaken : {m k : ℕ} {v r : ℤ} → Is m v r → m ≤ k → Is k v r
+is-weaken i h = record { is = i .is; size = size-weaken (i .size) h }
+
+-- the power of the coordinate of a table in term i
+abbrev pub Factor : List ℕ → ℕ → ℕ → List ℤ → ℤ → Type 0
+Factor b i a p f = Is (coordinateLimit ^ exponentOf b i a) (power (base p) (exponentOf b i a)) f
+
+module _ {b : List ℕ} {i : ℕ} (e : Exponents b i) (n : ℕ) (px py pz pw : List ℤ) where
+  held : (a : ℕ) (p : List ℤ) {f : ℤ} → a < 4 → Factor b i a p f → Holds (coordinateLimit ^ exponentOf b i a) (back f) (power (base p) (exponentOf b i a))
+  held a p l j = holds-call j (power-word (exponentOf b i a) (e .each a l))
+
+  module _ {f g : ℤ} (j : Factor b i 0 px f) (k : Factor b i 1 py g) where
+    pub two-fit : SFits w64 (back f *ℤ back g)
+    two-fit = powers-fit (exponentOf b i 0) (exponentOf b i 1) (omega (arith, e .sum)) (held 0 px (lit≤ tt) j) (held 1 py (lit≤ tt) k)
+
+    pub two-powers : n ≡ 2 → Is monomialLimit (monomial b i 0 (tabled n px py pz pw)) (back (back f *ℤ back g))
+    unfolding monomial tabled
+    two-powers h =
+        let u = powers-product (exponentOf b i 0) (exponentOf b i 1) (omega (arith, e .sum)) (held 0 px (lit≤ tt) j) (held 1 py (lit≤ tt) k) in
+        rw (h, mul-one) (is-weaken u (power-bound _ (omega (arith, e .sum))))
+
+    module _ {r : ℤ} (l : Factor b i 2 pz r) where
+      last-two : Holds (coordinateLimit ^ (exponentOf b i 1 + exponentOf b i 2)) (back (back g *ℤ back r)) (power (base py) (exponentOf b i 1) ⊗ power (base pz) (exponentOf b i 2))
+      last-two = powers-product (exponentOf b i 1) (exponentOf b i 2) (omega (arith, e .sum)) (held 1 py (lit≤ tt) k) (held 2 pz (lit≤ tt) l)
+
+      pub three-fit-last : SFits w64 (back g *ℤ back r)
+      three-fit-last = powers-fit (exponentOf b i 1) (exponentOf b i 2) (omega (arith, e .sum)) (held 1 py (lit≤ tt) k) (held 2 pz (lit≤ tt) l)
+
+      pub three-fit : SFits w64 (back f *ℤ back (back g *ℤ back r))
+      three-fit = powers-fit (exponentOf b i 0) (exponentOf b i 1 + exponentOf b i 2) (omega (arith, e .sum)) (held 0 px (lit≤ tt) j) last-two
+
+      pub three-powers : n ≡ 3 → Is monomialLimit (monomial b i 0 (tabled n px py pz pw)) (back (back f *ℤ back (back g *ℤ back r)))
+      unfolding monomial tabled
+      three-powers h =
+          let u = powers-product (exponentOf b i 0) (exponentOf b i 1 + exponentOf b i 2) (omega (arith, e .sum)) (held 0 px (lit≤ tt) j) last-two in
+          rw (h, mul-one) (is-weaken u (power-bound _ (omega (arith, e .sum))))
+
+      module _ {t : ℤ} (o : Factor b i 3 pw t) where
+        upper : Holds (coordinateLimit ^ (exponentOf b i 2 + exponentOf b i 3)) (back (back r *ℤ back t)) (power (base pz) (exponentOf b i 2) ⊗ power (base pw) (exponentOf b i 3))
+        upper = powers-product (exponentOf b i 2) (exponentOf b i 3) (omega (arith, e .sum)) (held 2 pz (lit≤ tt) l) (held 3 pw (lit≤ tt) o)
+
+        last-three : Holds (coordinateLimit ^ (exponentOf b i 1 + (exponentOf b i 2 + exponentOf b i 3))) (back (back g *ℤ back (back r *ℤ back t)))
+            (power (base py) (exponentOf b i 1) ⊗ (power (base pz) (exponentOf b i 2) ⊗ power (base pw) (exponentOf b i 3)))
+        last-three = powers-product (exponentOf b i 1) (exponentOf b i 2 + exponentOf b i 3) (omega (arith, e .sum)) (held 1 py (lit≤ tt) k) upper
+
+        pub four-fit-last : SFits w64 (back r *ℤ back t)
+        four-fit-last = powers-fit (exponentOf b i 2) (exponentOf b i 3) (omega (arith, e .sum)) (held 2 pz (lit≤ tt) l) (held 3 pw (lit≤ tt) o)
+
+        pub four-fit-upper : SFits w64 (back g *ℤ back (back r *ℤ back t))
+        four-fit-upper = powers-fit (exponentOf b i 1) (exponentOf b i 2 + exponentOf b i 3) (omega (arith, e .sum)) (held 1 py (lit≤ tt) k) upper
+
+        pub four-fit : SFits w64 (back f *ℤ back (back g *ℤ back (back r *ℤ back t)))
+        four-fit = powers-fit (exponentOf b i 0) (exponentOf b i 1 + (exponentOf b i 2 + exponentOf b i 3)) (omega (arith, e .sum)) (held 0 px (lit≤ tt) j) last-three
+
+        pub four-powers : n ≡ 4 → Is monomialLimit (monomial b i 0 (tabled n px py pz pw)) (back (back f *ℤ back (back g *ℤ back (back r *ℤ back t))))
+        unfolding monomial tabled
+        four-powers h =
+            let u = powers-product (exponentOf b i 0) (exponentOf b i 1 + (exponentOf b i 2 + exponentOf b i 3)) (omega (arith, e .sum)) (held 0 px (lit≤ tt) j) last-three in
+            rw (h, mul-one) (is-weaken u (power-bound _ (omega (arith, e .sum))))
+
+-- ---- a term
+
+module _ {b : List ℕ} {i : ℕ} (v : List ℤ) {c m : ℤ} (e : Exponents b i) (h : c ≡ coefficientOf b i) (j : Is monomialLimit (monomial b i 0 v) m) where
+  coefficient-held : Holds coefficientLimit (back c) (coefficientOf b i)
+  coefficient-held = holds-call (record { is = h; size = e .coefficient }) coefficient-word
+
+  pub term-fits : SFits w64 (back c *ℤ back m)
+  unfolding termSize
+  term-fits = fits-mul coefficient-held (holds-call j monomial-word) term-word
+
+  pub term-product : Is termSize (termValue b v i) (back (back c *ℤ back m))
+  unfolding termValue termSize
+  term-product = holds-mul coefficient-held (holds-call j monomial-word) term-word

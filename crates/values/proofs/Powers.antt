@@ -1,0 +1,146 @@
+-- Powers of coordinates up to the degree's limit, the table of them, and their products: all stay far inside 64 bits.
+use mathlib.Core.Path.{_≡_, refl, subst, _∙_}
+use mathlib.Core.List.{List, [], _∷_}
+use Prim.Native.Nat.{ℕ, suc, zero, _+_, _*_, _^_, _-_, _≤_, _<_}
+use native.Mathlib.Omega.{arith}
+use native.Mathlib.Nat.{le-trans, pow-succ', pow-le-pow-right}
+use lib.IntN.{ℤ, pos, _*ℤ_}
+use lib.ListN.{getD}
+use lib.Dec.{lit≤, lit<}
+use lib.Pow.{pow-add}
+use mir.Syntax.{w64}
+use mir.Val.{SFits}
+use Rattle.exact.specs.Int.{_⊗_, power, 0ℤ}
+use Rattle.exact.specs.Size.{Size, Is}
+use Rattle.exact.proofs.Ring.{mul-one}
+use Rattle.exact.proofs.SizeLaws.{size-power}
+use Rattle.exact.proofs.Bits.{Holds, holds, holds-call, back, back-is, fits-mul, holds-mul}
+use Rattle.paper.specs.Limits.{coordinateLimit, degreeLimit}
+use Rattle.bits.specs.Axes.{Axes}
+use Rattle.bits.proofs.EachDimension.{each-axes}
+use Rattle.places.specs.declared.Vertex.{Vertex}
+use Rattle.places.specs.Held.{vertexAs}
+use Rattle.values.specs.Box.{Near}
+use Rattle.values.specs.Sums.{monomialLimit, PowersOf, base, Tables, tabled}
+use Rattle.values.proofs.Limits.{coordinate-word, degree-limit, monomial-limit}
+
+-- a power up to the degree's limit
+pub power-bound : (k : ℕ) → k ≤ degreeLimit → coordinateLimit ^ k ≤ monomialLimit
+unfolding monomialLimit coordinateLimit
+power-bound k h = pow-le-pow-right (lit< tt) h
+
+pub power-word : (k : ℕ) → k ≤ degreeLimit → coordinateLimit ^ k ≤ 2 ^ 63 - 1
+power-word k h = le-trans (power-bound k h) (rw monomial-limit (lit≤ tt))
+
+-- ---- products of powers
+
+-- two powers whose exponents together are within the degree's limit
+module _ (p q : ℕ) (h : p + q ≤ degreeLimit) {v w f g : ℤ} (i : Holds (coordinateLimit ^ p) f v) (j : Holds (coordinateLimit ^ q) g w) where
+  bound : coordinateLimit ^ p * coordinateLimit ^ q ≤ 2 ^ 63 - 1
+  bound = subst (λ (m : ℕ). m ≤ 2 ^ 63 - 1) (pow-add coordinateLimit p q) (power-word (p + q) h)
+
+  pub powers-fit : SFits w64 (f *ℤ g)
+  powers-fit = fits-mul i j bound
+
+  pub powers-product : Holds (coordinateLimit ^ (p + q)) (back (f *ℤ g)) (v ⊗ w)
+  powers-product = rw (pow-add coordinateLimit p q) (holds-mul i j bound)
+
+-- ---- the table
+
+module _ {x : ℤ} (s : Size coordinateLimit x) where
+  pub one-is : Is (coordinateLimit ^ 0) (power x 0) (pos 1)
+  unfolding power
+  one-is = record { is = refl; size = size-power s 0 }
+
+  pub itself-is : Is (coordinateLimit ^ 1) (power x 1) (back x)
+  unfolding power
+  itself-is = rw (mul-one x) (record { is = holds s coordinate-word .is; size = rw mul-one at (size-power s 1) })
+
+  -- one power more
+  module _ (k : ℕ) (l : k < degreeLimit) {r : ℤ} (i : Holds (coordinateLimit ^ k) r (power x k)) where
+    next-bound : coordinateLimit * coordinateLimit ^ k ≤ 2 ^ 63 - 1
+    next-bound = subst (λ (m : ℕ). m ≤ 2 ^ 63 - 1) (pow-succ' coordinateLimit k) (power-word (suc k) l)
+
+    pub power-fits : SFits w64 (back x *ℤ r)
+    power-fits = fits-mul (holds s coordinate-word) i next-bound
+
+    pub power-next : Holds (coordinateLimit ^ suc k) (back (back x *ℤ r)) (power x (suc k))
+    unfolding power
+    power-next = rw (pow-succ' coordinateLimit k) (holds-mul (holds s coordinate-word) i next-bound)
+
+  pub square-is : Holds (coordinateLimit ^ 2) (back (back x *ℤ back x)) (power x 2)
+  unfolding degreeLimit
+  square-is = power-next 1 (lit< tt) itself-is
+
+  pub square-fits : SFits w64 (back x *ℤ back x)
+  unfolding degreeLimit
+  square-fits = power-fits 1 (lit< tt) itself-is
+
+  pub cube-is : Holds (coordinateLimit ^ 3) (back (back x *ℤ back (back x *ℤ back x))) (power x 3)
+  unfolding degreeLimit
+  cube-is = power-next 2 (lit< tt) square-is
+
+  pub cube-fits : SFits w64 (back x *ℤ back (back x *ℤ back x))
+  unfolding degreeLimit
+  cube-fits = power-fits 2 (lit< tt) square-is
+
+  pub fourth-is : Holds (coordinateLimit ^ 4) (back (back x *ℤ back (back x *ℤ back (back x *ℤ back x)))) (power x 4)
+  unfolding degreeLimit
+  fourth-is = power-next 3 (lit< tt) cube-is
+
+  pub fourth-fits : SFits w64 (back x *ℤ back (back x *ℤ back (back x *ℤ back x)))
+  unfolding degreeLimit
+  fourth-fits = power-fits 3 (lit< tt) cube-is
+
+  pub powers-of : PowersOf x (pos 1 ∷ back x ∷ back (back x *ℤ back x) ∷ back (back x *ℤ back (back x *ℤ back x)) ∷ back (back x *ℤ back (back x *ℤ back (back x *ℤ back x))) ∷ [])
+  powers-of = record { count = refl; power-at = at }
+    where
+      at : (e : ℕ) → e ≤ degreeLimit
+          → Is (coordinateLimit ^ e) (power x e)
+          (getD (pos 1 ∷ back x ∷ back (back x *ℤ back x) ∷ back (back x *ℤ back (back x *ℤ back x)) ∷ back (back x *ℤ back (back x *ℤ back (back x *ℤ back x))) ∷ []) e 0ℤ)
+      at zero l = one-is
+      at (suc zero) l = itself-is
+      at (suc (suc zero)) l = square-is
+      at (suc (suc (suc zero))) l = cube-is
+      at (suc (suc (suc (suc zero)))) l = fourth-is
+      at (suc (suc (suc (suc (suc e))))) l = absurd (omega (arith, degree-limit))
+
+-- the entry 1 of the powers of x is x
+pub powers-base : {x : ℤ} {p : List ℤ} → PowersOf x p → base p ≡ x
+unfolding base power degreeLimit
+powers-base {x} h = h .power-at 1 (lit≤ tt) .is ∙ mul-one x
+
+pub powers-own : {x : ℤ} {p : List ℤ} → PowersOf x p → PowersOf (base p) p
+powers-own h = rw (powers-base h) h
+
+-- an entry, read from the table
+pub power-entry : {x : ℤ} {p : List ℤ} {e r : ℕ} → PowersOf x p → r ≡ e → e ≤ degreeLimit → Is (coordinateLimit ^ e) (power x e) (back (getD p r 0ℤ))
+power-entry {e = e} h i l = rw i (holds-call (h .power-at e l) (power-word e l))
+
+-- ---- the tables of a vertex
+
+module _ {n : ℕ} {v : Vertex} {px py pz pw : List ℤ} (d : Axes n) (s : Near n v) (i : 0 < n → PowersOf (back (v .x)) px)
+    (j : 1 < n → PowersOf (back (v .y)) py) (k : 2 < n → PowersOf (back (v .z)) pz) (l : 3 < n → PowersOf (back (v .w)) pw) where
+  pub tables : Tables n px py pz pw
+  tables =
+      record {
+        x = powers-own (i (omega (arith, d .low)));
+        y = powers-own (j (omega (arith, d .low)));
+        z = λ h. powers-own (k h);
+        w = λ h. powers-own (l h);
+      }
+
+  -- a table's base is the coordinate
+  base-is : {x : ℤ} {p : List ℤ} → Size coordinateLimit x → PowersOf (back x) p → base p ≡ x
+  base-is t h = powers-base h ∙ back-is t coordinate-word
+
+  pub tabled-is : tabled n px py pz pw ≡ vertexAs n v
+  unfolding tabled vertexAs
+  tabled-is =
+      let x = base-is (s .x) (i (omega (arith, d .low))) in
+      let y = base-is (s .y) (j (omega (arith, d .low))) in
+      each-axes (λ m. (2 < m → base pz ≡ v .z) → (3 < m → base pw ≡ v .w) → tabled m px py pz pw ≡ vertexAs m v)
+      (λ z w. rw (x, y))
+      (λ z w. rw (x, y, z (lit< tt)))
+      (λ z w. rw (x, y, z (lit< tt), w (lit< tt)))
+      n d (λ h. base-is (s .z h) (k h)) (λ h. base-is (s .w h) (l h))

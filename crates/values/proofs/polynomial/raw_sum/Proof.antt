@@ -1,0 +1,31 @@
+-- `polynomial::raw_sum` meets its contract: the tables are those of the vertex.
+use Rattle.exact.proofs.Bits.{back-size}
+use Rattle.values.proofs.Limits.{coordinate-word}
+use Rattle.values.proofs.Powers.{tables, tabled-is}
+use Rattle.values.proofs.PartialSums.{sum-at}
+use Rattle.values.proofs.polynomial.raw_sum.Statement.{statement}
+use Rattle.values.proofs.polynomial.raw_sum.Tie as tie
+
+powers-requires : tie.Need-powers-requires
+powers-requires c κs = λ l. back-size (c .before .before .pre .1 .x) coordinate-word
+
+powers-requires-2 : tie.Need-powers-requires-2
+powers-requires-2 c κs = λ l. back-size (c .before .before .before .before .pre .1 .y) coordinate-word
+
+powers-requires-3 : tie.Need-powers-requires-3
+powers-requires-3 c κs = λ l. back-size (c .before .before .before .before .before .before .pre .1 .z l) coordinate-word
+
+powers-requires-4 : tie.Need-powers-requires-4
+powers-requires-4 c κs = λ l. back-size (c .before .before .before .before .before .before .before .before .pre .1 .w l) coordinate-word
+
+sum-of-requires : tie.Need-sum-of-requires
+sum-of-requires c κs = (c .before .before .before .before .before .before .before .before .before .before .before .before .before .pre .0, tables (c .before .before .before .before .before .before .before .before .before .before .before .before .before .pre .0 .axes) (c .before .before .before .before .before .before .before .before .before .before .before .before .before .pre .1) (c .before .before .before .before .before .before .before .before .before .before .powers .ensures) (c .before .before .before .before .before .before .before .before .powers2 .ensures) (c .before .before .before .before .before .before .powers3 .ensures) (c .before .before .before .before .powers4 .ensures))
+
+returns : tie.Need-returns
+returns c =
+    sum-at _ (tabled-is (c .before .before .before .before .before .before .before .before .before .before .before .before .before .before .pre .0 .axes) (c .before .before .before .before .before .before .before .before .before .before .before .before .before .before .pre .1) (c .before .before .before .before .before .before .before .before .before .before .before .powers .ensures) (c .before .before .before .before .before .before .before .before .before .powers2 .ensures) (c .before .before .before .before .before .before .before .powers3 .ensures) (c .before .before .before .before .before .powers4 .ensures))
+    (c .sum-of .ensures)
+
+pub raw-sum-spec : {M : Type 1} → statement M
+raw-sum-spec =
+    tie.close (tie.spec powers-requires powers-requires-2 powers-requires-3 powers-requires-4 sum-of-requires returns)

@@ -1,0 +1,92 @@
+// Vertices: moved along the axes of a mask or along one axis, and tested against the box.
+ghost use mathlib.Core.Path.{_≡_};
+ghost use Prim.Native.Nat.{_+_, _*_, _%_, _<_};
+ghost use lib.IntN.{pos};
+ghost use lib.ListN.{length};
+ghost use Rattle.exact.specs.Int.{_⊕_};
+ghost use Rattle.exact.specs.Size.{Size, Is};
+ghost use Rattle.paper.specs.Values.{insideFrom};
+ghost use Rattle.bits.specs.Axes.{Axes};
+ghost use Rattle.places.specs.Held.{vertexAs, VertexSize};
+ghost use Rattle.values.specs.Moves.{moveLimit, Shifted, Moved};
+ghost use Rattle.values.specs.Box.{axisInside};
+use bits::read;
+use places::Vertex;
+
+// A coordinate moved by the lowest bit of a mask.
+fn plus_bit(x: i64, mask: u64) -> i64
+    requires { ⌜ Size moveLimit x ⌝ }
+    ensures { λ r. ⌜ Is (moveLimit + 1) (x ⊕ pos (mask % 2)) r ⌝ }
+{
+    x + (mask % 2) as i64
+}
+
+// The vertex with 1 added on each axis of a mask.
+pub fn shifted(v: Vertex, mask: u64) -> Vertex
+    requires { ⌜ VertexSize moveLimit v ⌝ }
+    ensures { λ r. ⌜ Shifted v mask r ⌝ }
+{
+    let x = plus_bit(v.x, mask);
+    let y = plus_bit(v.y, mask / 2);
+    let z = plus_bit(v.z, mask / 2 / 2);
+    let w = plus_bit(v.w, mask / 2 / 2 / 2);
+    Vertex { x, y, z, w }
+}
+
+// The vertex with d, which is 1 or − 1, added on one axis.
+pub fn moved(v: Vertex, axis: u64, d: i64) -> Vertex
+    requires { ⌜ (VertexSize moveLimit v) × (Size 1 d) ⌝ }
+    ensures { λ r. ⌜ Moved v axis d r ⌝ }
+{
+    let x = v.x;
+    let y = v.y;
+    let z = v.z;
+    let w = v.w;
+    if axis == 0 {
+        return Vertex { x: x + d, y, z, w };
+    }
+    if axis == 1 {
+        return Vertex { x, y: y + d, z, w };
+    }
+    if axis == 2 {
+        return Vertex { x, y, z: z + d, w };
+    }
+    if axis == 3 {
+        return Vertex { x, y, z, w: w + d };
+    }
+    v
+}
+
+// A coordinate lies from the low to the high end of an axis, both ends included.
+fn axis_inside(bounds: &[u8], axis: usize, x: i64) -> bool
+    requires { ⌜ 4 * axis + 3 < length (now bounds) ⌝ }
+    ensures { λ r. ⌜ r ≡ axisInside (now (bounds .entry)) axis x ⌝ }
+{
+    if read::signed_word(bounds, 4 * axis) <= x {
+        return x <= read::signed_word(bounds, 4 * axis + 2);
+    }
+    false
+}
+
+// A vertex lies in the box.
+pub fn inside(bounds: &[u8], n: usize, v: Vertex) -> bool
+    requires { ⌜ (Axes n) × (length (now bounds) ≡ 4 * n) ⌝ }
+    ensures { λ r. ⌜ r ≡ insideFrom (now (bounds .entry)) 0 (vertexAs n v) ⌝ }
+{
+    if !axis_inside(bounds, 0, v.x) {
+        return false;
+    }
+    if !axis_inside(bounds, 1, v.y) {
+        return false;
+    }
+    if n == 2 {
+        return true;
+    }
+    if !axis_inside(bounds, 2, v.z) {
+        return false;
+    }
+    if n == 3 {
+        return true;
+    }
+    axis_inside(bounds, 3, v.w)
+}

@@ -1,0 +1,114 @@
+// The exact sum of a polynomial at a vertex, term by term; the powers of the coordinates are taken from tables.
+ghost use mathlib.Core.Path.{_≡_};
+ghost use Prim.Native.Nat.{_+_, _*_, _^_, _≤_, _<_};
+ghost use Rattle.exact.specs.Int.{power};
+ghost use Rattle.exact.specs.Size.{Size, Is};
+ghost use Rattle.paper.specs.Limits.{coordinateLimit, degreeLimit};
+ghost use Rattle.paper.specs.Job.{termCount, exponentOf};
+ghost use Rattle.paper.specs.Values.{monomial, termValue, rawSum};
+ghost use Rattle.places.specs.Held.{vertexAs};
+ghost use Rattle.values.specs.Box.{Near};
+ghost use Rattle.values.specs.Sums.{monomialLimit, termSize, sumLimit, Polynomial, PowersOf, base, Tables, tabled};
+use bits::read;
+use places::Vertex;
+
+// The powers 0 to 4 of the coordinate on an axis; noughts if the axis does not count.
+fn powers(n: usize, axis: usize, x: i64) -> [i64; 5]
+    requires { ⌜ (axis < n → Size coordinateLimit x) ⌝ }
+    ensures { λ r. ⌜ (axis < n → PowersOf x r) ⌝ }
+{
+    if n <= axis {
+        return [0i64; 5];
+    }
+    let one: i64 = 1;
+    let square = x * x;
+    let cube = x * square;
+    [one, x, square, cube, x * cube]
+}
+
+// The power of one coordinate in term i.
+fn factor(body: &[u8], i: usize, axis: usize, p: &[i64; 5]) -> i64
+    requires { ⌜ (i < termCount (now body)) × (axis < 4) ⌝ }
+    requires { ⌜ (exponentOf (now body) i axis ≤ degreeLimit) × (PowersOf (base (now p)) (now p)) ⌝ }
+    ensures { λ r. ⌜ Is (coordinateLimit ^ exponentOf (now (body .entry)) i axis) (power (base (now (p .entry))) (exponentOf (now (body .entry)) i axis)) r ⌝ }
+{
+    p[read::byte(body, 8 * i + 4 + axis) as usize]
+}
+
+// The product of the powers of the coordinates in term i.
+fn monomial(
+    body: &[u8],
+    n: usize,
+    i: usize,
+    px: &[i64; 5],
+    py: &[i64; 5],
+    pz: &[i64; 5],
+    pw: &[i64; 5],
+) -> i64
+    requires { ⌜ (Polynomial n (now body)) × (i < termCount (now body)) ⌝ }
+    requires { ⌜ Tables n (now px) (now py) (now pz) (now pw) ⌝ }
+    ensures { λ r. ⌜ Is monomialLimit (monomial (now (body .entry)) i 0 (tabled n (now (px .entry)) (now (py .entry)) (now (pz .entry)) (now (pw .entry)))) r ⌝ }
+{
+    let first = factor(body, i, 0, px);
+    let second = factor(body, i, 1, py);
+    if n == 2 {
+        return first * second;
+    }
+    let third = factor(body, i, 2, pz);
+    if n == 3 {
+        return first * (second * third);
+    }
+    first * (second * (third * factor(body, i, 3, pw)))
+}
+
+// Term i at a vertex: the coefficient times the powers.
+fn term_value(
+    body: &[u8],
+    n: usize,
+    i: usize,
+    px: &[i64; 5],
+    py: &[i64; 5],
+    pz: &[i64; 5],
+    pw: &[i64; 5],
+) -> i64
+    requires { ⌜ (Polynomial n (now body)) × (i < termCount (now body)) ⌝ }
+    requires { ⌜ Tables n (now px) (now py) (now pz) (now pw) ⌝ }
+    ensures { λ r. ⌜ Is termSize (termValue (now (body .entry)) (tabled n (now (px .entry)) (now (py .entry)) (now (pz .entry)) (now (pw .entry))) i) r ⌝ }
+{
+    read::signed_double_word(body, 8 * i) * monomial(body, n, i, px, py, pz, pw)
+}
+
+// The exact sum of the polynomial at the vertex of the tables, first term to last.
+pub fn sum_of(
+    body: &[u8],
+    n: usize,
+    px: &[i64; 5],
+    py: &[i64; 5],
+    pz: &[i64; 5],
+    pw: &[i64; 5],
+) -> i64
+    requires { ⌜ Polynomial n (now body) ⌝ }
+    requires { ⌜ Tables n (now px) (now py) (now pz) (now pw) ⌝ }
+    ensures { λ r. ⌜ Is sumLimit (rawSum (now (body .entry)) (tabled n (now (px .entry)) (now (py .entry)) (now (pz .entry)) (now (pw .entry)))) r ⌝ }
+{
+    let count = body.len() / 8;
+    let mut sum: i64 = 0;
+    let mut i: usize = 0;
+    while i < count {
+        sum = sum + term_value(body, n, i, px, py, pz, pw);
+        i += 1;
+    }
+    sum
+}
+
+// The exact sum of the polynomial at a vertex.
+pub fn raw_sum(body: &[u8], n: usize, v: Vertex) -> i64
+    requires { ⌜ (Polynomial n (now body)) × (Near n v) ⌝ }
+    ensures { λ r. ⌜ Is sumLimit (rawSum (now (body .entry)) (vertexAs n v)) r ⌝ }
+{
+    let px = powers(n, 0, v.x);
+    let py = powers(n, 1, v.y);
+    let pz = powers(n, 2, v.z);
+    let pw = powers(n, 3, v.w);
+    sum_of(body, n, &px, &py, &pz, &pw)
+}
