@@ -4,8 +4,9 @@ ghost use mathlib.Core.Path.{_≡_};
 ghost use Prim.Native.Nat.{_+_, _≤_, _<_};
 ghost use lib.ListN.{length};
 ghost use lib.IntN.{natAbs};
+ghost use Rattle.exact.specs.Size.{Is};
 ghost use Rattle.paper.specs.Bytes.{byte, word, doubleWord, signed, signedWord, signedDoubleWord};
-ghost use Rattle.bits.specs.Read.{Reads, SignedReads};
+ghost use Rattle.bits.specs.Read.{Reads, PowerOfTwo};
 
 fn wide(x: u8) -> u64
     ensures { λ r. ⌜ Reads 256 x r ⌝ }
@@ -36,21 +37,19 @@ pub fn double_word(s: &[u8], k: usize) -> u64
     word(s, k) + 65536 * word(s, k + 2)
 }
 
-// An unsigned number under 2 · half as a signed one: those from half on stand for the number less 2 · half.
+// An unsigned number under 2 · half as a signed one: those from half on stand for the number less 2 · half. The exclusive or adds half to
+// a number under half and takes half from any other.
 pub fn signed(half: u64, u: u64) -> i64
-    requires { ⌜ (half ≤ 2147483648) × (u < half + half) ⌝ }
-    ensures { λ r. ⌜ SignedReads half (signed half u) r ⌝ }
+    requires { ⌜ (PowerOfTwo half) × ((half ≤ 2147483648) × (u < half + half)) ⌝ }
+    ensures { λ r. ⌜ Is half (signed half u) r ⌝ }
 {
-    if u < half {
-        return u as i64;
-    }
-    -1 - (half + half - (u + 1)) as i64
+    (u ^ half) as i64 - half as i64
 }
 
 // 16 bits, signed.
 pub fn signed_word(s: &[u8], k: usize) -> i64
     requires { ⌜ k + 1 < length (now s) ⌝ }
-    ensures { λ r. ⌜ SignedReads 32768 (signedWord (now (s .entry)) k) r ⌝ }
+    ensures { λ r. ⌜ Is 32768 (signedWord (now (s .entry)) k) r ⌝ }
 {
     signed(32768, word(s, k))
 }
@@ -58,18 +57,17 @@ pub fn signed_word(s: &[u8], k: usize) -> i64
 // 32 bits, signed.
 pub fn signed_double_word(s: &[u8], k: usize) -> i64
     requires { ⌜ k + 3 < length (now s) ⌝ }
-    ensures { λ r. ⌜ SignedReads 2147483648 (signedDoubleWord (now (s .entry)) k) r ⌝ }
+    ensures { λ r. ⌜ Is 2147483648 (signedDoubleWord (now (s .entry)) k) r ⌝ }
 {
     signed(2147483648, double_word(s, k))
 }
 
-// The size of a signed number.
+// The absolute value; − 1 less a number under 0 fits for every one.
 pub fn size(z: i64) -> u64
-    requires { ⌜ natAbs z ≤ 4611686018427387904 ⌝ }
     ensures { λ r. ⌜ r ≡ natAbs z ⌝ }
 {
     if z < 0 {
-        return (-z) as u64;
+        return (-1 - z) as u64 + 1;
     }
     z as u64
 }

@@ -1,5 +1,5 @@
 -- The numbers read from 3n bytes make the place that the bytes name.
-use mathlib.Core.Path.{_≡_, refl, ap, subst, _∙_}
+use mathlib.Core.Path.{_≡_, refl, ap, _∙_}
 use mathlib.Core.Bool.{cond}
 use mathlib.Core.List.{List}
 use Prim.Native.Nat.{ℕ, _+_, _*_, _-_, _≤_, _<_}
@@ -8,20 +8,17 @@ use lib.Dec.{ltb}
 use lib.IntN.{ℤ}
 use borrow.Author.Tests.{lt-ltb, le-ltb}
 use Rattle.exact.specs.Int.{0ℤ}
-use Rattle.exact.specs.Size.{Size, Is}
+use Rattle.exact.specs.Size.{Is}
 use Rattle.exact.specs.Crossed.{countFrom}
 use Rattle.exact.proofs.Bits.{is-size}
 use Rattle.paper.specs.Bytes.{byte, signedWord}
 use Rattle.paper.specs.Job.{decodePlace}
 use Rattle.bits.specs.Axes.{Axes}
-use Rattle.bits.specs.Read.{Reads, SignedReads}
+use Rattle.bits.specs.Read.{Reads}
 use Rattle.bits.proofs.EachDimension.{each-axes}
 use Rattle.places.specs.Held.{vertexAs, masksAs, facetAs, placeAs}
 use Rattle.places.specs.PlaceBytes.{coordinateOf, maskOf, PlaceRead}
 use Rattle.places.specs.declared.HeldPlace.{HeldPlace}
-
-pub read-is : {m : ℕ} {v r : ℤ} → SignedReads m v r → Is m v r
-read-is {m} h = record { is = h .is; size = subst (Size m) (h .is) (record { size = h .size }) }
 
 -- ---- a number that counts, and one that does not
 

@@ -1,12 +1,12 @@
 -- `terms::term_ok` meets its contract: the four tests in the order of the definition.
 use mathlib.Core.Path.{_≡_, refl, ap, _∙_}
 use Prim.Native.Nat.{_*_}
-use native.Mathlib.Omega.{arith}
+use lib.Dec.{lit≤}
 use lib.IntN.{natAbs}
 use borrow.Author.Needs.{needs}
 use borrow.Author.Tests.{eq-eqb, ne-eqb, le-leb, lt-leb}
+use Rattle.exact.proofs.Bits.{holds-call}
 use Rattle.paper.specs.Bytes.{signedDoubleWord}
-use Rattle.bits.proofs.SignedBits.{read-bits, read-size}
 use Rattle.paper.proofs.RangeSteps.{test-failed, test-passed}
 use Rattle.terms.proofs.TermTest.{term-test}
 use Rattle.terms.proofs.term_ok.Statement.{statement}
@@ -14,7 +14,7 @@ use Rattle.terms.proofs.term_ok.Tie as tie
 
 -- the size that the code tests is the coefficient's
 sized : (c : tie.After-size) → c .size .result ≡ natAbs (signedDoubleWord (c .before .before .before .args .b .now) (8 * c .before .before .before .args .i))
-sized c = c .size .ensures ∙ ap natAbs (read-bits (c .before .signed-double-word .ensures) (c .before .signed-double-word .ok))
+sized c = c .size .ensures ∙ ap natAbs (holds-call (c .before .signed-double-word .ensures) (lit≤ tt) .is)
 
 mul-signed-double-word : tie.Need-mul-signed-double-word
 mul-signed-double-word c = search needs
@@ -23,7 +23,7 @@ signed-double-word-requires : tie.Need-signed-double-word-requires
 signed-double-word-requires c κs = search needs
 
 size-requires : tie.Need-size-requires
-size-requires c κs = omega (arith, read-size (c .signed-double-word .ensures) (c .signed-double-word .ok))
+size-requires c κs = search needs
 
 returns : tie.Need-returns
 returns c = rw (term-test _ _ _ (sized (c .before)) refl refl, eq-eqb _ _ (c .if1 .taken))

@@ -1,13 +1,14 @@
 -- `boxes::axis_ok` meets its contract: the three tests in the order of the definition.
 use mathlib.Core.Path.{_≡_}
 use mathlib.Core.Bool.{_&&_}
+use lib.Dec.{lit≤}
 use lib.Signed.{leZ, ltZ}
 use lib.IntN.{pos, negsuc}
 use mir.Val.{toZ, ofZ}
 use mir.Syntax.{w64}
 use borrow.Author.Needs.{needs}
+use Rattle.exact.proofs.Bits.{holds-call}
 use Rattle.paper.specs.Job.{axisOk}
-use Rattle.bits.proofs.SignedBits.{read-bits}
 use Rattle.bodies.proofs.AxisTest.{axis-test}
 use Rattle.bodies.proofs.boxes.axis_ok.Statement.{statement}
 use Rattle.bodies.proofs.boxes.axis_ok.Tie as tie
@@ -19,8 +20,7 @@ tests : (c : tie.After-signed-word2)
     && (ltZ (toZ w64 (ofZ w64 (c .before .signed-word .result))) (toZ w64 (ofZ w64 (c .signed-word2 .result)))
     && leZ (toZ w64 (ofZ w64 (c .signed-word2 .result))) (pos 256)))
 tests c =
-    axis-test _ _ (read-bits (c .before .signed-word .ensures) (c .before .signed-word .ok))
-    (read-bits (c .signed-word2 .ensures) (c .signed-word2 .ok))
+    axis-test _ _ (holds-call (c .before .signed-word .ensures) (lit≤ tt) .is) (holds-call (c .signed-word2 .ensures) (lit≤ tt) .is)
 
 mul-signed-word : tie.Need-mul-signed-word
 mul-signed-word c = search needs
