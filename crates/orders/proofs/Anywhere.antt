@@ -14,9 +14,8 @@ use Rattle.places.specs.declared.HeldPlace.{HeldPlace}
 use Rattle.places.specs.Held.{vertexAs, masksAs, facetAs, placeAs}
 use Rattle.orders.specs.Table.{orderAt, InTable}
 use Rattle.orders.specs.Facets.{masksAt, sideAt, facetMask}
-use Rattle.orders.specs.Corners.{coordinates, cornerUnder, lowOver, PlaceIs}
+use Rattle.orders.specs.Corners.{cornerUnder, lowOver, LowIs, PlaceIs}
 use Rattle.orders.proofs.FacetMasks.{masks-are}
-use Rattle.orders.proofs.Moves.{low-vertex}
 
 -- a place
 abbrev pub placed : Grid.Vertex → List ℕ → ℕ → Place
@@ -45,7 +44,7 @@ side-under c (a ∷ o) (suc i) = side-of-under i (a ∷ o)
 
 pub place-is :
     (n : ℕ) (corner : Vertex) (row out : ℕ) (r : HeldPlace) → InTable n row → out ≤ n
-    → coordinates (r .low) ≡ lowOver (coordinates corner) (orderAt n row) out
+    → LowIs corner (orderAt n row) out (r .low)
     → r .mask1 ≡ facetMask n row out 1 → r .mask2 ≡ facetMask n row out 2 → r .mask3 ≡ facetMask n row out 3
     → r .side ≡ sideAt n row out
     → PlaceIs n corner row out (placeAt (vertexAs n corner) (orderAt n row) out) r
@@ -53,7 +52,7 @@ unfolding placeAs facetAs masksAs masksAt sideAt
 place-is n corner row out r h l e e1 e2 e3 s =
     record {
       is =
-          ap₂ (λ v ms. placed v ms (r .side)) (low-vertex corner (r .low) (orderAt n row) out e n)
+          ap₂ (λ v ms. placed v ms (r .side)) (e .is n)
           (ap₂ (λ m ms. take (n - 1) (m ∷ ms)) e1 (ap₂ (λ m k. m ∷ k ∷ []) e2 e3) ∙ sym (masks-are n row out h l))
           ∙ ap (placed (lowOver (vertexAs n corner) (orderAt n row) out) (masksAt n row out)) s
           ∙ sym (place-anywhere (vertexAs n corner) (orderAt n row) out);

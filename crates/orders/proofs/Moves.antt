@@ -1,12 +1,16 @@
--- One up or down on an axis as a sum; a corner and a facet's lowest vertex in their first n coordinates, in the others, and in size.
-use Prim.Native.Nat.{ℕ, suc, zero, _+_, _<_}
+-- A vertex that the code moves is moved in every dimension (`moved-of`); a corner and a facet's lowest vertex as moved vertices, and the
+-- coordinates that do not count, which neither changes.
+use Prim.Native.Nat.{ℕ, suc, zero, _+_, _-_, _≤_, _<_}
 use mathlib.Core.Path.{_≡_, refl, sym, ap, _∙_, subst}
+use mathlib.Core.Bool.{Bool, true, false}
 use mathlib.Core.List.{List, [], _∷_}
 use native.Mathlib.Omega.{arith}
 use native.Mathlib.Nat.{not-suc-le-zero}
 use lib.IntN.{ℤ, negsuc, _+ℤ_}
 use lib.ListN.{length, getD, take, drop}
-use lib.Dec.{lit≤}
+use lib.Seq.{getD-drop}
+use lib.Dec.{ltb, lit≤}
+use borrow.Author.Tests.{ltb-true, ltb-false}
 use mir.Syntax.{w64}
 use mir.Val.{SFits}
 use Rattle.exact.specs.Int.{_⊕_, _⊖_, neg, 0ℤ, 1ℤ}
@@ -17,21 +21,32 @@ use Rattle.curves.specs.Grid.{up, down}
 use Rattle.curves.specs.Grid as Grid
 use Rattle.places.specs.declared.Vertex.{Vertex}
 use Rattle.places.specs.Held.{vertexAs, VertexSize}
-use Rattle.orders.specs.Corners.{moveLimit, coordinates, addOn, cornerUnder, lowOver}
+use Rattle.orders.specs.Table.{orderAt, axisAt, InTable}
+use Rattle.orders.specs.Moves.{moveLimit, addOn, Moved}
+use Rattle.orders.specs.Corners.{cornerUnder, lowOver, CornerIs, LowIs}
+use Rattle.orders.proofs.Rows.{axis-under}
 
--- ---- sums on an axis
+-- ---- sizes
 
-up-is : (a : ℕ) (v : Grid.Vertex) → up a v ≡ addOn a 1ℤ v
-unfolding up addOn
-up-is a [] = refl
-up-is zero (x ∷ v) = refl
-up-is (suc a) (x ∷ v) = ap (λ w. x ∷ w) (up-is a v)
+abbrev pub Sized : ℕ → List ℤ → Type 0
+Sized m l = (k : ℕ) → Size m (getD l k 0ℤ)
 
-down-is : (a : ℕ) (v : Grid.Vertex) → down a v ≡ addOn a (negsuc 0) v
-unfolding down addOn _⊖_ neg
-down-is a [] = refl
-down-is zero (x ∷ v) = refl
-down-is (suc a) (x ∷ v) = ap (λ w. x ∷ w) (down-is a v)
+vertex-sized : {m : ℕ} {v : Vertex} → VertexSize m v → Sized m (vertexAs 4 v)
+unfolding vertexAs
+vertex-sized s zero = s .x
+vertex-sized s (suc zero) = s .y
+vertex-sized s (suc (suc zero)) = s .z
+vertex-sized s (suc (suc (suc zero))) = s .w
+vertex-sized s (suc (suc (suc (suc k)))) = record { size = omega arith }
+
+sized-vertex : {m : ℕ} {v : Vertex} → Sized m (vertexAs 4 v) → VertexSize m v
+unfolding vertexAs
+sized-vertex h = record { x = h 0; y = h 1; z = h 2; w = h 3 }
+
+pub vertex-weaken : {m k : ℕ} {v : Vertex} → VertexSize m v → m ≤ k → VertexSize k v
+vertex-weaken s l = record { x = size-weaken (s .x) l; y = size-weaken (s .y) l; z = size-weaken (s .z) l; w = size-weaken (s .w) l }
+
+-- ---- one axis
 
 take-addOn : (n a : ℕ) (d : ℤ) (v : Grid.Vertex) → take n (addOn a d v) ≡ addOn a d (take n v)
 unfolding addOn
@@ -46,23 +61,6 @@ drop-addOn zero a d v l = absurd (not-suc-le-zero l)
 drop-addOn (suc n) a d [] l = refl
 drop-addOn (suc n) zero d (x ∷ v) l = refl
 drop-addOn (suc n) (suc a) d (x ∷ v) l = drop-addOn n a d v (omega arith)
-
--- ---- sizes
-
-abbrev pub Sized : ℕ → List ℤ → Type 0
-Sized m l = (k : ℕ) → Size m (getD l k 0ℤ)
-
-pub vertex-sized : {m : ℕ} {v : Vertex} → VertexSize m v → Sized m (coordinates v)
-unfolding coordinates
-vertex-sized s zero = s .x
-vertex-sized s (suc zero) = s .y
-vertex-sized s (suc (suc zero)) = s .z
-vertex-sized s (suc (suc (suc zero))) = s .w
-vertex-sized s (suc (suc (suc (suc k)))) = record { size = omega arith }
-
-pub sized-vertex : {m : ℕ} {v : Vertex} → Sized m (coordinates v) → VertexSize m v
-unfolding coordinates
-sized-vertex h = record { x = h 0; y = h 1; z = h 2; w = h 3 }
 
 addOn-sized : (m a : ℕ) (d : ℤ) (v : List ℤ) → Size 1 d → Sized m v → Sized (m + 1) (addOn a d v)
 unfolding addOn
@@ -83,44 +81,93 @@ module _ {w d : ℤ} (s : Size moveLimit w) (t : Size 1 d) where
   unfolding moveLimit
   move-is = holds-add (holds s (lit≤ tt)) (holds t (lit≤ tt)) (lit≤ tt) .is
 
+pub moved-of : (v r : Vertex) (a : ℕ) (d : ℤ) → Size 1 d → vertexAs 4 r ≡ addOn a d (vertexAs 4 v) → Moved v a d r
+unfolding vertexAs
+moved-of v r a d t e =
+    record {
+      is = λ n. ap (take n) e ∙ take-addOn n a d (vertexAs 4 v);
+      size = λ m s. sized-vertex (subst (Sized (m + 1)) (sym e) (addOn-sized m a d (vertexAs 4 v) t (vertex-sized s)));
+    }
+
+-- behind the fourth axis nothing moves
+addOn-none : (a : ℕ) (d : ℤ) (v : Grid.Vertex) → length v ≤ a → addOn a d v ≡ v
+unfolding addOn
+addOn-none a d [] l = refl
+addOn-none zero d (x ∷ v) l = absurd (not-suc-le-zero l)
+addOn-none (suc a) d (x ∷ v) l = ap (λ w. x ∷ w) (addOn-none a d v (omega arith))
+
+pub moved-none : (v : Vertex) (a : ℕ) (d : ℤ) → 4 ≤ a → Moved v a d v
+unfolding vertexAs
+moved-none v a d l =
+    record {
+      is = λ n. ap (take n) (sym (addOn-none a d (vertexAs 4 v) l)) ∙ take-addOn n a d (vertexAs 4 v);
+      size = λ m s. vertex-weaken s (omega arith);
+    }
+
 -- ---- corner and lowest vertex
 
-pub corner-first : (v : Grid.Vertex) (o : List ℕ) (i : ℕ) → 0 < length o → i ≡ 0 → cornerUnder v o i ≡ addOn (getD o 0 0) (negsuc 0) v
-unfolding cornerUnder
-corner-first v [] i l e = absurd (not-suc-le-zero l)
-corner-first v (a ∷ o) zero l e = down-is a v
-corner-first v (a ∷ o) (suc i) l e = absurd (omega arith)
+up-is : (a : ℕ) (v : Grid.Vertex) → up a v ≡ addOn a 1ℤ v
+unfolding up addOn
+up-is a [] = refl
+up-is zero (x ∷ v) = refl
+up-is (suc a) (x ∷ v) = ap (λ w. x ∷ w) (up-is a v)
 
-pub corner-other : (v : Grid.Vertex) (o : List ℕ) (i : ℕ) → (i ≡ 0 → ⊥) → cornerUnder v o i ≡ v
+down-is : (a : ℕ) (v : Grid.Vertex) → down a v ≡ addOn a (negsuc 0) v
+unfolding down addOn _⊖_ neg
+down-is a [] = refl
+down-is zero (x ∷ v) = refl
+down-is (suc a) (x ∷ v) = ap (λ w. x ∷ w) (down-is a v)
+
+corner-first : (v : Grid.Vertex) (o : List ℕ) → 0 < length o → cornerUnder v o 0 ≡ addOn (getD o 0 0) (negsuc 0) v
+unfolding cornerUnder
+corner-first v [] l = absurd (not-suc-le-zero l)
+corner-first v (a ∷ o) l = down-is a v
+
+corner-other : (v : Grid.Vertex) (o : List ℕ) (i : ℕ) → (i ≡ 0 → ⊥) → cornerUnder v o i ≡ v
 unfolding cornerUnder
 corner-other v [] i k = refl
 corner-other v (a ∷ o) zero k = absurd (k refl)
 corner-other v (a ∷ o) (suc i) k = refl
 
-pub low-first : (v : Grid.Vertex) (o : List ℕ) (i : ℕ) → 0 < length o → i ≡ 0 → lowOver v o i ≡ addOn (getD o 0 0) 1ℤ v
+low-first : (v : Grid.Vertex) (o : List ℕ) → 0 < length o → lowOver v o 0 ≡ addOn (getD o 0 0) 1ℤ v
 unfolding lowOver
-low-first v [] i l e = absurd (not-suc-le-zero l)
-low-first v (a ∷ o) zero l e = up-is a v
-low-first v (a ∷ o) (suc i) l e = absurd (omega arith)
+low-first v [] l = absurd (not-suc-le-zero l)
+low-first v (a ∷ o) l = up-is a v
 
-pub low-other : (v : Grid.Vertex) (o : List ℕ) (i : ℕ) → (i ≡ 0 → ⊥) → lowOver v o i ≡ v
+low-other : (v : Grid.Vertex) (o : List ℕ) (i : ℕ) → (i ≡ 0 → ⊥) → lowOver v o i ≡ v
 unfolding lowOver
 low-other v [] i k = refl
 low-other v (a ∷ o) zero k = absurd (k refl)
 low-other v (a ∷ o) (suc i) k = refl
 
--- what both say of the first n coordinates, of the others, and of the size
-take-corner : (n : ℕ) (v : Grid.Vertex) (o : List ℕ) (i : ℕ) → take n (cornerUnder v o i) ≡ cornerUnder (take n v) o i
-unfolding cornerUnder
-take-corner n v [] i = refl
-take-corner n v (a ∷ o) zero = ap (take n) (down-is a v) ∙ take-addOn n a (negsuc 0) v ∙ sym (down-is a (take n v))
-take-corner n v (a ∷ o) (suc i) = refl
+module _ (v : Vertex) (o : List ℕ) (i : ℕ) where
+  pub corner-moved : (r : Vertex) (a : ℕ) → 0 < length o → i ≡ 0 → a ≡ getD o 0 0 → Moved v a (negsuc 0) r → CornerIs v o i r
+  corner-moved r a l z e h =
+      record {
+        is =
+            λ n.
+            h .is n ∙ ap (λ b. addOn b (negsuc 0) (vertexAs n v)) e ∙ sym (corner-first (vertexAs n v) o l)
+            ∙ ap (cornerUnder (vertexAs n v) o) (sym z);
+        size = h .size;
+      }
 
-take-low : (n : ℕ) (v : Grid.Vertex) (o : List ℕ) (i : ℕ) → take n (lowOver v o i) ≡ lowOver (take n v) o i
-unfolding lowOver
-take-low n v [] i = refl
-take-low n v (a ∷ o) zero = ap (take n) (up-is a v) ∙ take-addOn n a 1ℤ v ∙ sym (up-is a (take n v))
-take-low n v (a ∷ o) (suc i) = refl
+  pub corner-same : (i ≡ 0 → ⊥) → CornerIs v o i v
+  corner-same k = record { is = λ n. sym (corner-other (vertexAs n v) o i k); size = λ m s. vertex-weaken s (omega arith) }
+
+  pub low-moved : (r : Vertex) (a : ℕ) → 0 < length o → i ≡ 0 → a ≡ getD o 0 0 → Moved v a 1ℤ r → LowIs v o i r
+  low-moved r a l z e h =
+      record {
+        is =
+            λ n.
+            h .is n ∙ ap (λ b. addOn b 1ℤ (vertexAs n v)) e ∙ sym (low-first (vertexAs n v) o l)
+            ∙ ap (lowOver (vertexAs n v) o) (sym z);
+        size = h .size;
+      }
+
+  pub low-same : (i ≡ 0 → ⊥) → LowIs v o i v
+  low-same k = record { is = λ n. sym (low-other (vertexAs n v) o i k); size = λ m s. vertex-weaken s (omega arith) }
+
+-- ---- the coordinates that do not count
 
 drop-corner : (n : ℕ) (v : Grid.Vertex) (o : List ℕ) (i : ℕ) → getD o 0 0 < n → drop n (cornerUnder v o i) ≡ drop n v
 unfolding cornerUnder
@@ -134,40 +181,27 @@ drop-low n v [] i l = refl
 drop-low n v (a ∷ o) zero l = ap (drop n) (up-is a v) ∙ drop-addOn n a 1ℤ v l
 drop-low n v (a ∷ o) (suc i) l = refl
 
-corner-sized : (m : ℕ) (v : Grid.Vertex) (o : List ℕ) (i : ℕ) → Sized m v → Sized (m + 1) (cornerUnder v o i)
-unfolding cornerUnder
-corner-sized m v [] i h k = size-weaken (h k) (omega arith)
-corner-sized m v (a ∷ o) zero h k =
-    subst (λ w. Size (m + 1) (getD w k 0ℤ)) (sym (down-is a v)) (addOn-sized m a (negsuc 0) v (record { size = omega arith }) h k)
-corner-sized m v (a ∷ o) (suc i) h k = size-weaken (h k) (omega arith)
+module _ (n row : ℕ) (h : InTable n row) (v : Vertex) (i : ℕ) (r : Vertex) where
+  first-under : getD (orderAt n row) 0 0 < n
+  unfolding axisAt
+  first-under = axis-under n row 0 h (omega (arith, h .axes .low))
 
-low-sized : (m : ℕ) (v : Grid.Vertex) (o : List ℕ) (i : ℕ) → Sized m v → Sized (m + 1) (lowOver v o i)
-unfolding lowOver
-low-sized m v [] i h k = size-weaken (h k) (omega arith)
-low-sized m v (a ∷ o) zero h k =
-    subst (λ w. Size (m + 1) (getD w k 0ℤ)) (sym (up-is a v)) (addOn-sized m a 1ℤ v (record { size = omega arith }) h k)
-low-sized m v (a ∷ o) (suc i) h k = size-weaken (h k) (omega arith)
+  pub corner-rest : CornerIs v (orderAt n row) i r → drop n (vertexAs 4 r) ≡ drop n (vertexAs 4 v)
+  corner-rest c = ap (drop n) (c .is 4) ∙ drop-corner n (vertexAs 4 v) (orderAt n row) i first-under
 
--- ---- the vertices that the code holds
+  pub low-rest : LowIs v (orderAt n row) i r → drop n (vertexAs 4 r) ≡ drop n (vertexAs 4 v)
+  low-rest c = ap (drop n) (c .is 4) ∙ drop-low n (vertexAs 4 v) (orderAt n row) i first-under
 
-module _ (v r : Vertex) (o : List ℕ) (i : ℕ) (e : coordinates r ≡ cornerUnder (coordinates v) o i) where
-  pub corner-vertex : (n : ℕ) → vertexAs n r ≡ cornerUnder (vertexAs n v) o i
-  unfolding vertexAs coordinates
-  corner-vertex n = ap (take n) e ∙ take-corner n (coordinates v) o i
-
-  pub corner-rest : (n : ℕ) → getD o 0 0 < n → drop n (coordinates r) ≡ drop n (coordinates v)
-  corner-rest n l = ap (drop n) e ∙ drop-corner n (coordinates v) o i l
-
-  pub corner-size : {m : ℕ} → VertexSize m v → VertexSize (m + 1) r
-  corner-size {m} s = sized-vertex (subst (Sized (m + 1)) (sym e) (corner-sized m (coordinates v) o i (vertex-sized s)))
-
-module _ (v r : Vertex) (o : List ℕ) (i : ℕ) (e : coordinates r ≡ lowOver (coordinates v) o i) where
-  pub low-vertex : (n : ℕ) → vertexAs n r ≡ lowOver (vertexAs n v) o i
-  unfolding vertexAs coordinates
-  low-vertex n = ap (take n) e ∙ take-low n (coordinates v) o i
-
-  pub low-rest : (n : ℕ) → getD o 0 0 < n → drop n (coordinates r) ≡ drop n (coordinates v)
-  low-rest n l = ap (drop n) e ∙ drop-low n (coordinates v) o i l
-
-  pub low-size : {m : ℕ} → VertexSize m v → VertexSize (m + 1) r
-  low-size {m} s = sized-vertex (subst (Sized (m + 1)) (sym e) (low-sized m (coordinates v) o i (vertex-sized s)))
+-- a vertex is at most m in size if its first n coordinates are and the others are those of such a vertex
+pub size-parts :
+    (n m : ℕ) (v r : Vertex) → drop n (vertexAs 4 r) ≡ drop n (vertexAs 4 v) → VertexSize m v
+    → ((k : ℕ) → k < n → Size m (getD (vertexAs 4 r) k 0ℤ)) → VertexSize m r
+size-parts n m v r e s h = sized-vertex (λ k. go k (ltb k n) refl)
+  where
+    go : (k : ℕ) (t : Bool) → ltb k n ≡ t → Size m (getD (vertexAs 4 r) k 0ℤ)
+    go k true q = h k (ltb-true k n q)
+    go k false q =
+        let behind : n + (k - n) ≡ k = omega (arith, ltb-false k n q) in
+        rw behind at
+        (subst (Size m) (sym (getD-drop n (vertexAs 4 v) (k - n) 0ℤ) ∙ ap (λ l. getD l (k - n) 0ℤ) (sym e) ∙ getD-drop n (vertexAs 4 r) (k - n) 0ℤ)
+        (vertex-sized s (n + (k - n))))

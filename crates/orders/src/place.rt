@@ -1,21 +1,21 @@
 // The place of a simplex without one vertex, with any corner.
 
-ghost use mathlib.Core.Path.{_≡_};
-ghost use Prim.Native.Nat.{_≤_, _<_};
+ghost use Prim.Native.Nat.{_≤_};
 ghost use Rattle.exact.specs.Size.{Size};
 ghost use Rattle.curves.specs.Grid.{placeAt};
 ghost use Rattle.places.specs.Held.{vertexAs, VertexSize};
 ghost use Rattle.orders.specs.Table.{InTable, orderAt};
-ghost use Rattle.orders.specs.Corners.{moveLimit, coordinates, addOn, lowOver, PlaceIs};
+ghost use Rattle.orders.specs.Moves.{moveLimit, Moved};
+ghost use Rattle.orders.specs.Corners.{LowIs, PlaceIs};
 use crate::facet;
 use crate::table;
 use places::HeldPlace;
 use places::Vertex;
 
-// The vertex with d added on one axis.
+// The vertex with d, which is 1 or − 1, added on one axis.
 pub fn moved(v: Vertex, axis: u64, d: i64) -> Vertex
-    requires { ⌜ (VertexSize moveLimit v) × ((axis < 4) × (Size 1 d)) ⌝ }
-    ensures { λ r. ⌜ coordinates r ≡ addOn axis d (coordinates v) ⌝ }
+    requires { ⌜ (VertexSize moveLimit v) × (Size 1 d) ⌝ }
+    ensures { λ r. ⌜ Moved v axis d r ⌝ }
 {
     let mut r = v;
     if axis == 0 {
@@ -30,14 +30,17 @@ pub fn moved(v: Vertex, axis: u64, d: i64) -> Vertex
         r.z = v.z + d;
         return r;
     }
-    r.w = v.w + d;
-    r
+    if axis == 3 {
+        r.w = v.w + d;
+        return r;
+    }
+    v
 }
 
 // The lowest vertex of the facet without vertex `out`.
 pub fn lowest(n: usize, corner: Vertex, row: usize, out: usize) -> Vertex
     requires { ⌜ (InTable n row) × (VertexSize moveLimit corner) ⌝ }
-    ensures { λ r. ⌜ coordinates r ≡ lowOver (coordinates corner) (orderAt n row) out ⌝ }
+    ensures { λ r. ⌜ LowIs corner (orderAt n row) out r ⌝ }
 {
     if out == 0 {
         return moved(corner, table::axis(n, row, 0), 1);

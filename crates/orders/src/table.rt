@@ -1,7 +1,7 @@
 // The orders of two and of three axes as a constant table, and the masks of the vertices of a simplex with a row's order.
 
 ghost use mathlib.Core.Path.{_≡_};
-ghost use Prim.Native.Nat.{_≤_, _<_};
+ghost use Prim.Native.Nat.{_<_};
 ghost use lib.ListN.{length};
 ghost use Rattle.curves.specs.Grid.{orders};
 ghost use Rattle.bits.specs.Axes.{Axes};
@@ -40,11 +40,14 @@ pub fn axis(n: usize, row: usize, k: usize) -> u64
     ORDERS3[3 * row + k] as u64
 }
 
-// The mask of vertex k, its difference from the corner.
+// The mask of vertex k, its difference from the corner; 0 behind the last.
 pub fn vertex_mask(n: usize, row: usize, k: usize) -> u64
-    requires { ⌜ (InTable n row) × (k ≤ n) ⌝ }
+    requires { ⌜ InTable n row ⌝ }
     ensures { λ r. ⌜ r ≡ vertexMask (orderAt n row) k ⌝ }
 {
+    if n < k {
+        return 0;
+    }
     if n == 2 {
         return MASKS2[3 * row + k] as u64;
     }

@@ -1,11 +1,11 @@
 // The corner of the simplex of a facet, and the place on the other side of a facet.
 
-ghost use mathlib.Core.Path.{_≡_};
 ghost use Prim.Native.Nat.{_≤_};
 ghost use Rattle.curves.specs.Grid.{placeAt, turn};
 ghost use Rattle.places.specs.Held.{vertexAs, VertexSize};
 ghost use Rattle.orders.specs.Table.{InTable, orderAt};
-ghost use Rattle.orders.specs.Corners.{moveLimit, coordinates, cornerUnder, PlaceIs};
+ghost use Rattle.orders.specs.Moves.{moveLimit};
+ghost use Rattle.orders.specs.Corners.{CornerIs, PlaceIs};
 use orders::place;
 use orders::table;
 use places::HeldPlace;
@@ -14,7 +14,7 @@ use places::Vertex;
 // The corner of the simplex with a row's order whose facet without vertex `out` is that of the place.
 pub fn corner_of(n: usize, p: HeldPlace, row: usize, out: usize) -> Vertex
     requires { ⌜ (InTable n row) × (VertexSize moveLimit (p .low)) ⌝ }
-    ensures { λ r. ⌜ coordinates r ≡ cornerUnder (coordinates (p .low)) (orderAt n row) out ⌝ }
+    ensures { λ r. ⌜ CornerIs (p .low) (orderAt n row) out r ⌝ }
 {
     let low = p.low;
     if out == 0 {

@@ -4,7 +4,6 @@ use Prim.Native.Nat.{_-_}
 use native.Mathlib.Omega.{arith}
 use borrow.Author.Needs.{needs}
 use Rattle.exact.specs.Minors.{skip}
-use Rattle.exact.proofs.Position.{skip-le}
 use Rattle.orders.specs.Table.{orderAt, vertexMask}
 use Rattle.orders.specs.Facets.{facetMask}
 use Rattle.orders.proofs.Rows.{row-length}
@@ -20,15 +19,13 @@ skip-requires : tie.Need-skip-requires
 skip-requires c κs = search needs
 
 vertex-mask-requires : tie.Need-vertex-mask-requires
-vertex-mask-requires c κs =
-    (c .before .before .pre .0, omega (arith, c .skip .ensures, skip-le (c .before .before .args .n) (c .before .before .args .out) (c .before .before .args .i) (c .before .before .pre .1 .0) (c .before .if1 .left)))
+vertex-mask-requires c κs = search needs
 
 skip-requires-2 : tie.Need-skip-requires-2
 skip-requires-2 c κs = search needs
 
 vertex-mask-requires-2 : tie.Need-vertex-mask-requires-2
-vertex-mask-requires-2 c κs =
-    (c .before .before .before .before .pre .0, omega (arith, c .skip2 .ensures, skip-le (c .before .before .before .before .args .n) (c .before .before .before .before .args .out) 0 (c .before .before .before .before .pre .1 .0) (omega (arith, c .before .before .before .before .pre .0 .axes .low))))
+vertex-mask-requires-2 c κs = search needs
 
 -- the two results
 first-is :

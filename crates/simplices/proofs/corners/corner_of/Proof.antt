@@ -1,12 +1,9 @@
 -- `corners::corner_of` meets its contract: without vertex 0 the facet's lowest vertex lies one above the corner, else it is the corner.
-use mathlib.Core.Path.{sym, ap, _∙_}
 use native.Mathlib.Omega.{arith}
-use lib.IntN.{negsuc}
 use borrow.Author.Needs.{needs}
 use Rattle.orders.specs.Table.{orderAt, axisAt}
-use Rattle.orders.specs.Corners.{coordinates, addOn}
 use Rattle.orders.proofs.Rows.{row-length}
-use Rattle.orders.proofs.Moves.{corner-first, corner-other}
+use Rattle.orders.proofs.Moves.{corner-moved, corner-same}
 use Rattle.simplices.proofs.corners.corner_of.Statement.{statement}
 use Rattle.simplices.proofs.corners.corner_of.Tie as tie
 
@@ -19,13 +16,11 @@ moved-requires c κs = search needs
 returns : tie.Need-returns
 unfolding axisAt
 returns c =
-    c .moved .ensures
-    ∙ ap (λ a. addOn a (negsuc 0) (coordinates (c .before .before .before .before .args .p .low))) (c .before .axis .ensures .is)
-    ∙ sym (corner-first (coordinates (c .before .before .before .before .args .p .low)) (orderAt (c .before .before .before .before .args .n) (c .before .before .before .before .args .row)) (c .before .before .before .before .args .out) (omega (arith, c .before .before .before .before .pre .0 .axes .low, row-length (c .before .before .before .before .args .n) (c .before .before .before .before .args .row) (c .before .before .before .before .pre .0))) (c .before .before .if1 .taken))
+    corner-moved (c .before .before .before .before .args .p .low) (orderAt (c .before .before .before .before .args .n) (c .before .before .before .before .args .row)) (c .before .before .before .before .args .out) (c .moved .result) (c .before .axis .result)
+    (omega (arith, c .before .before .before .before .pre .0 .axes .low, row-length (c .before .before .before .before .args .n) (c .before .before .before .before .args .row) (c .before .before .before .before .pre .0))) (c .before .before .if1 .taken) (c .before .axis .ensures .is) (c .moved .ensures)
 
 returns-2 : tie.Need-returns-2
-returns-2 c =
-    sym (corner-other (coordinates (c .before .before .args .p .low)) (orderAt (c .before .before .args .n) (c .before .before .args .row)) (c .before .before .args .out) (c .if1 .left))
+returns-2 c = corner-same (c .before .before .args .p .low) (orderAt (c .before .before .args .n) (c .before .before .args .row)) (c .before .before .args .out) (c .if1 .left)
 
 pub corner-of-spec : {M : Type 1} → statement M
 corner-of-spec = tie.close (tie.spec axis-requires moved-requires returns returns-2)
