@@ -1,6 +1,5 @@
 -- Laws that the proofs of the functions cite, a file for each idea.
 pub mod Limits
-pub mod SignedNumber
 pub mod Moves
 pub mod Inside
 pub mod Powers

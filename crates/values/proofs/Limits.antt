@@ -51,11 +51,6 @@ pub sum-word : sumLimit ≤ 2 ^ 63 - 1
 unfolding sumLimit
 sum-word = lit≤ tt
 
--- what the absolute value asks
-pub sum-sized : sumLimit ≤ 4611686018427387904
-unfolding sumLimit
-sum-sized = lit≤ tt
-
 pub move-word : moveLimit + 1 ≤ 2 ^ 63 - 1
 unfolding moveLimit
 move-word = lit≤ tt

@@ -1,7 +1,6 @@
 -- `polynomial::term_value` meets its contract: the coefficient times the monomial.
 use native.Mathlib.Omega.{arith}
 use Rattle.paper.specs.Job.{coefficientOf}
-use Rattle.values.proofs.SignedNumber.{read-is}
 use Rattle.values.proofs.Monomials.{term-inside, exponents, term-fits, term-product}
 use borrow.Author.Needs.{needs}
 use Rattle.values.proofs.polynomial.term_value.Statement.{statement}
@@ -18,11 +17,11 @@ monomial-requires c κs = c .before .before .pre
 
 mul-result : tie.Need-mul-result
 unfolding coefficientOf
-mul-result c = term-fits _ (exponents (c .before .before .before .pre .0 .0) _ (c .before .before .before .pre .0 .1)) (read-is (c .before .signed-double-word .ensures) .is) (c .monomial .ensures)
+mul-result c = term-fits _ (exponents (c .before .before .before .pre .0 .0) _ (c .before .before .before .pre .0 .1)) (c .before .signed-double-word .ensures .is) (c .monomial .ensures)
 
 returns : tie.Need-returns
 unfolding coefficientOf
-returns c = term-product _ (exponents (c .before .before .before .pre .0 .0) _ (c .before .before .before .pre .0 .1)) (read-is (c .before .signed-double-word .ensures) .is) (c .monomial .ensures)
+returns c = term-product _ (exponents (c .before .before .before .pre .0 .0) _ (c .before .before .before .pre .0 .1)) (c .before .signed-double-word .ensures .is) (c .monomial .ensures)
 
 pub term-value-spec : {M : Type 1} → statement M
 term-value-spec =

@@ -1,13 +1,13 @@
 -- `value::readable` meets its contract: it compares the size with the limit.
-use Rattle.exact.proofs.SizeLaws.{size-weaken}
-use Rattle.exact.proofs.Bits.{back-is, back-size}
+use borrow.Author.Needs.{needs}
+use Rattle.exact.proofs.Bits.{back-is}
 use Rattle.paper.specs.Values.{readableSum}
-use Rattle.values.proofs.Limits.{readable-limit, sum-sized, sum-word}
+use Rattle.values.proofs.Limits.{readable-limit, sum-word}
 use Rattle.values.proofs.value.readable.Statement.{statement}
 use Rattle.values.proofs.value.readable.Tie as tie
 
 size-requires : tie.Need-size-requires
-size-requires c κs = size-weaken (back-size (c .pre) sum-word) sum-sized .size
+size-requires c κs = search needs
 
 returns : tie.Need-returns
 unfolding readableSum
