@@ -13,7 +13,7 @@ opened-body-requires : tie.Need-opened-body-requires
 opened-body-requires c κs = search needs
 
 inside-requires : tie.Need-inside-requires
-inside-requires c κs = (job-axes (c .before .before .pre), job-box (c .before .before .pre) (c .opened-body .ensures))
+inside-requires c κs = (job-axes (c .before .before .pre), job-box (c .before .before .pre) (c .opened-body .ensures .1))
 
 returns : tie.Need-returns
 unfolding fieldOf
