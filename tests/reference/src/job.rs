@@ -2,6 +2,9 @@
 
 use crate::crossed::Term;
 use crate::grid::Place;
+use crate::limits::{
+    dimension_ok, Limits, LARGEST_COEFFICIENT, LARGEST_COORDINATE, LARGEST_DEGREE,
+};
 
 /// What Open finds in the bytes of a job.
 #[derive(Clone, Debug)]
@@ -27,20 +30,6 @@ fn signed_32(bytes: &[u8], at: usize) -> i64 {
     i32::from_le_bytes([bytes[at], bytes[at + 1], bytes[at + 2], bytes[at + 3]]) as i64
 }
 
-/// The most terms of a polynomial.
-pub fn most_terms(n: usize) -> usize {
-    if n == 2 {
-        15
-    } else {
-        35
-    }
-}
-
-/// The largest size of a coefficient.
-pub const LARGEST_COEFFICIENT: i64 = 1_048_576;
-/// The largest size of a coordinate.
-pub const LARGEST_COORDINATE: i64 = 256;
-
 /// **Open.** The refusals are tested in rising number.
 pub fn open(job: &[u8]) -> Result<Job, u8> {
     // 1: fewer than 4 bytes.
@@ -53,7 +42,7 @@ pub fn open(job: &[u8]) -> Result<Job, u8> {
     }
     // 3: dimension.
     let n = job[1] as usize;
-    if n != 2 && n != 3 {
+    if !dimension_ok(n) {
         return Err(3);
     }
     // 4: entry count.
@@ -73,7 +62,7 @@ pub fn open(job: &[u8]) -> Result<Job, u8> {
         let fits_kind = if k == 0 {
             length == 4 * n
         } else if k < n {
-            length % 8 == 0 && length / 8 >= 1 && length / 8 <= most_terms(n)
+            length % 8 == 0 && length / 8 >= 1 && length / 8 <= Limits::of(n).terms
         } else {
             length == 3 * n
         };
@@ -113,7 +102,7 @@ pub fn open(job: &[u8]) -> Result<Job, u8> {
             if exponents[n..].iter().any(|&e| e != 0) {
                 return Err(7);
             }
-            if exponents.iter().map(|&e| e as u32).sum::<u32>() > 4 {
+            if exponents.iter().map(|&e| e as u32).sum::<u32>() > LARGEST_DEGREE {
                 return Err(7);
             }
             if terms.last().is_some_and(|before| exponents <= before.exponents) {
