@@ -5,21 +5,26 @@ use std::fmt::Debug;
 
 /// An enum whose cases can be listed.
 pub trait Named: Ord + Copy + Debug + 'static {
-    /// Every case, in the order of the enum.
-    const ALL: &'static [Self];
+    /// Every case, in the order of the enum, with its weight: how often it is tried.
+    const WEIGHTS: &'static [(Self, u64)];
+
+    /// Every case.
+    fn all() -> Vec<Self> {
+        Self::WEIGHTS.iter().map(|(case, _)| *case).collect()
+    }
 }
 
-/// Declares an enum without fields and lists its cases.
+/// Declares an enum without fields, each case with its weight.
 #[macro_export]
 macro_rules! named {
-    ($(#[$about:meta])* $name:ident { $($(#[$line:meta])* $case:ident,)* }) => {
+    ($(#[$about:meta])* $name:ident { $($(#[$line:meta])* $case:ident: $weight:literal,)* }) => {
         $(#[$about])*
         #[derive(Clone, Copy, PartialEq, Eq, PartialOrd, Ord, Debug)]
         pub enum $name {
             $($(#[$line])* $case,)*
         }
         impl $crate::tally::Named for $name {
-            const ALL: &'static [$name] = &[$($name::$case,)*];
+            const WEIGHTS: &'static [($name, u64)] = &[$(($name::$case, $weight),)*];
         }
     };
 }
@@ -62,6 +67,6 @@ impl<T: Ord + Copy + Debug> Tally<T> {
 impl<T: Named> Tally<T> {
     /// Fails unless each case of the enum was met.
     pub fn assert_all(&self) {
-        self.assert_met(T::ALL);
+        self.assert_met(&T::all());
     }
 }

@@ -11,89 +11,60 @@ named! {
     /// What becomes of a job that opens.
     Change {
         /// Nothing.
-        Untouched,
+        Untouched: 1000,
         /// One damage.
-        DamagedOnce,
+        DamagedOnce: 1400,
         /// Two or three damages.
-        DamagedMore,
+        DamagedMore: 600,
         /// Its end is cut off, more often close to the front.
-        Cut,
+        Cut: 200,
         /// Up to 12 bytes follow it.
-        Lengthened,
+        Lengthened: 200,
         /// 65,536 bytes follow it: the same length in 16 bits.
-        LengthenedBy65536,
+        LengthenedBy65536: 10,
         /// A polynomial has a count of terms at or over a limit, the contents in keeping.
-        OtherTermCount,
+        OtherTermCount: 150,
         /// A body is some bytes shorter or longer, the contents in keeping.
-        OtherBodyLength,
+        OtherBodyLength: 50,
         /// Any bytes instead of it.
-        Noise,
+        Noise: 200,
         /// Any bytes behind a part that is kept.
-        NoiseBehind,
+        NoiseBehind: 200,
     }
 }
-
-const CHANGES: &[(Change, u64)] = &[
-    (Change::Untouched, 1000),
-    (Change::DamagedOnce, 1400),
-    (Change::DamagedMore, 600),
-    (Change::Cut, 200),
-    (Change::Lengthened, 200),
-    (Change::LengthenedBy65536, 10),
-    (Change::OtherTermCount, 150),
-    (Change::OtherBodyLength, 50),
-    (Change::Noise, 200),
-    (Change::NoiseBehind, 200),
-];
 
 named! {
     /// A damage of one field. Where it is not said otherwise, the field takes a value at the
     /// limits that Open tests.
     Damage {
         /// Any byte becomes any other.
-        AnyByte,
+        AnyByte: 4,
         /// Any byte becomes 1 or 128 more or 1 less.
-        ByteNearby,
+        ByteNearby: 2,
         /// One of the first four bytes.
-        FirstFour,
+        FirstFour: 2,
         /// An offset or a length of the contents.
-        ContentsField,
+        ContentsField: 4,
         /// A length and the next offset grow or fall together, modulo 65,536.
-        LengthAndNextOffset,
+        LengthAndNextOffset: 2,
         /// An end of the box, also one at or beside the other end.
-        BoxEnd,
+        BoxEnd: 4,
         /// A coefficient.
-        Coefficient,
+        Coefficient: 4,
         /// An exponent.
-        Exponent,
+        Exponent: 2,
         /// Two terms are exchanged.
-        TermsExchanged,
+        TermsExchanged: 1,
         /// A term takes the exponents of another.
-        ExponentsRepeated,
+        ExponentsRepeated: 1,
         /// A coordinate of the start.
-        StartCoordinate,
+        StartCoordinate: 2,
         /// A mask of the start.
-        StartMask,
+        StartMask: 2,
         /// The side of the start.
-        StartSide,
+        StartSide: 2,
     }
 }
-
-const DAMAGES: &[(Damage, u64)] = &[
-    (Damage::AnyByte, 4),
-    (Damage::ByteNearby, 2),
-    (Damage::FirstFour, 2),
-    (Damage::ContentsField, 4),
-    (Damage::LengthAndNextOffset, 2),
-    (Damage::BoxEnd, 4),
-    (Damage::Coefficient, 4),
-    (Damage::Exponent, 2),
-    (Damage::TermsExchanged, 1),
-    (Damage::ExponentsRepeated, 1),
-    (Damage::StartCoordinate, 2),
-    (Damage::StartMask, 2),
-    (Damage::StartSide, 2),
-];
 
 /// Values of a field at its limits and beyond.
 pub const COORDINATES: &[i64] = &[-256, 256, -257, 257, -32_768, 32_767, 0, 1, -1, 255, -255, 16];
@@ -131,67 +102,54 @@ impl Layout {
         Layout { n: parts.n, bodies }
     }
 
-    /// The length field of entry k of the contents; the offset field stands before it.
-    fn length_field(&self, k: usize) -> usize {
-        4 + 4 * k + 2
-    }
-
-    /// One of the terms of one of the polynomials, and another of the same.
+    /// A term of one of the polynomials, and a term of the same, perhaps another.
     fn two_terms(&self, r: &mut Random) -> (usize, usize) {
         let (offset, length) = self.bodies[1 + r.index(self.n - 1)];
         let count = length / 8;
         (offset + 8 * r.index(count), offset + 8 * r.index(count))
     }
 
+    fn contents_field(&self, r: &mut Random, job: &mut [u8]) {
+        let at = 4 + 2 * r.index(2 * (self.n + 1));
+        let x = get_16(job, at);
+        let values = [x + 1, x - 1, x + 8, x - 8, x + 256, 0, 65_535, 65_528, 65_534];
+        set_16(job, at, r.pick(&values));
+    }
+
+    fn length_and_next_offset(&self, r: &mut Random, job: &mut [u8]) {
+        let length = 4 + 4 * r.index(self.n) + 2;
+        let by = r.pick(&[8, -8, 65_535, 65_528, 4, 1]);
+        for at in [length, length + 2] {
+            set_16(job, at, get_16(job, at) + by);
+        }
+    }
+
+    fn box_end(&self, r: &mut Random, job: &mut [u8]) {
+        let (axis, end) = (r.index(self.n), r.index(2));
+        let at = |end: usize| self.bodies[0].0 + 4 * axis + 2 * end;
+        let other = get_16(job, at(1 - end));
+        let near = [other, other, other + 1, other - 1];
+        set_16(job, at(end), r.pick(&[COORDINATES, &near[..]].concat()));
+    }
+
     fn damage(&self, r: &mut Random, job: &mut [u8], damage: Damage) {
         let n = self.n;
+        let any = r.index(job.len());
+        let (one, other) = self.two_terms(r);
         let (start, start_length) = self.bodies[n];
         match damage {
-            Damage::AnyByte => job[r.index(job.len())] = r.byte(),
-            Damage::ByteNearby => {
-                let at = r.index(job.len());
-                job[at] = job[at].wrapping_add(r.pick(&[1, 255, 128]));
-            }
+            Damage::AnyByte => job[any] = r.byte(),
+            Damage::ByteNearby => job[any] = job[any].wrapping_add(r.pick(&[1, 255, 128])),
             Damage::FirstFour => job[r.index(4)] = r.pick(FIRST_FOUR),
-            Damage::ContentsField => {
-                let at = 4 + 2 * r.index(2 * (n + 1));
-                let x = get_16(job, at);
-                let near = [x + 1, x - 1, x + 8, x - 8, x + 256];
-                let far = [0, 65_535, 65_528, 65_534];
-                set_16(job, at, r.pick(&[&near[..], &far[..]].concat()));
-            }
-            Damage::LengthAndNextOffset => {
-                let length = self.length_field(r.index(n));
-                let by = r.pick(&[8, -8, 65_535, 65_528, 4, 1]);
-                for at in [length, length + 2] {
-                    set_16(job, at, get_16(job, at) + by);
-                }
-            }
-            Damage::BoxEnd => {
-                let (axis, end) = (r.index(n), r.index(2));
-                let at = |end: usize| self.bodies[0].0 + 4 * axis + 2 * end;
-                let other = get_16(job, at(1 - end));
-                let near = [other, other, other + 1, other - 1];
-                set_16(job, at(end), r.pick(&[COORDINATES, &near[..]].concat()));
-            }
+            Damage::ContentsField => self.contents_field(r, job),
+            Damage::LengthAndNextOffset => self.length_and_next_offset(r, job),
+            Damage::BoxEnd => self.box_end(r, job),
             Damage::Coefficient => {
-                let (at, _) = self.two_terms(r);
-                job[at..at + 4].copy_from_slice(&r.pick(COEFFICIENTS).to_le_bytes());
+                job[one..one + 4].copy_from_slice(&r.pick(COEFFICIENTS).to_le_bytes())
             }
-            Damage::Exponent => {
-                let (at, _) = self.two_terms(r);
-                job[at + 4 + r.index(4)] = r.pick(EXPONENTS);
-            }
-            Damage::TermsExchanged => {
-                let (one, other) = self.two_terms(r);
-                for k in 0..8 {
-                    job.swap(one + k, other + k);
-                }
-            }
-            Damage::ExponentsRepeated => {
-                let (one, other) = self.two_terms(r);
-                job.copy_within(other + 4..other + 8, one + 4);
-            }
+            Damage::Exponent => job[one + 4 + r.index(4)] = r.pick(EXPONENTS),
+            Damage::TermsExchanged => (0..8).for_each(|k| job.swap(one + k, other + k)),
+            Damage::ExponentsRepeated => job.copy_within(other + 4..other + 8, one + 4),
             Damage::StartCoordinate => set_16(job, start + 2 * r.index(n), r.pick(COORDINATES)),
             Damage::StartMask => job[start + 2 * n + r.index(n - 1)] = r.pick(MASKS),
             Damage::StartSide => job[start + start_length - 1] = r.pick(SIDES),
@@ -199,16 +157,60 @@ impl Layout {
     }
 }
 
-/// A polynomial body with a count of terms around the limits of the dimensions; the terms are
-/// good as far as there are any.
-fn other_term_count(r: &mut Random, n: usize) -> Vec<u8> {
+/// The job with a count of terms around the limits of the dimensions in one of its polynomials;
+/// the terms are good as far as there are any.
+fn other_term_count(r: &mut Random, parts: &Parts) -> Vec<u8> {
+    let n = parts.n;
     let mut counts = vec![0, 1];
-    for terms in DIMENSIONS.map(|n| Limits::of(n).terms).into_iter().chain([Limits::of(n).terms]) {
-        counts.extend([terms - 1, terms, terms + 1]);
+    for limits in DIMENSIONS.into_iter().chain([n]).map(Limits::of) {
+        counts.extend([limits.terms - 1, limits.terms, limits.terms + 1]);
     }
-    let good = exponents(n).iter().copied();
-    let all = good.chain(std::iter::repeat([5, 0, 0, 0]));
-    all.take(r.pick(&counts)).flat_map(|e| [[1, 0, 0, 0], e].concat()).collect()
+    let all = exponents(n).iter().copied().chain(std::iter::repeat([5, 0, 0, 0]));
+    let mut bodies = parts.bodies();
+    bodies[1 + r.index(n - 1)] =
+        all.take(r.pick(&counts)).flat_map(|e| [[1, 0, 0, 0], e].concat()).collect();
+    assemble(n, &bodies)
+}
+
+/// The job with one of its bodies some bytes shorter or longer.
+fn other_body_length(r: &mut Random, parts: &Parts) -> Vec<u8> {
+    let mut bodies = parts.bodies();
+    let body = &mut bodies[r.index(parts.n + 1)];
+    let length = body.len() as i64 + r.pick(&[-1, 1, -4, 4, -8, 8, 2]);
+    body.resize(length.max(0) as usize, 0);
+    assemble(parts.n, &bodies)
+}
+
+/// The bytes of a job after a change, with these damages.
+fn changed(r: &mut Random, parts: &Parts, change: Change, damages: &[Damage]) -> Vec<u8> {
+    let mut bytes = parts.bytes();
+    match change {
+        Change::Untouched => {}
+        Change::DamagedOnce | Change::DamagedMore => {
+            let layout = Layout::of(parts);
+            for &damage in damages {
+                layout.damage(r, &mut bytes, damage);
+            }
+        }
+        Change::Cut => {
+            let near_the_front = r.once_in(2);
+            let most = if near_the_front { 24 } else { bytes.len() };
+            bytes.truncate(r.index(most));
+        }
+        Change::Lengthened => {
+            let more = 1 + r.index(12);
+            bytes.resize(bytes.len() + more, r.pick(&[0, 1, 255]));
+        }
+        Change::LengthenedBy65536 => bytes.resize(bytes.len() + 65_536, 0),
+        Change::OtherTermCount => bytes = other_term_count(r, parts),
+        Change::OtherBodyLength => bytes = other_body_length(r, parts),
+        Change::Noise => bytes = (0..r.below(60)).map(|_| r.byte()).collect(),
+        Change::NoiseBehind => {
+            let kept = r.index(bytes.len());
+            bytes[kept..].fill_with(|| r.byte());
+        }
+    }
+    bytes
 }
 
 /// Bytes to hand to Open, and how they were made.
@@ -224,50 +226,14 @@ pub struct AnyJob {
 pub fn any_job(r: &mut Random) -> AnyJob {
     let search = r.once_in(4);
     let (kind, parts) = valid_of_any(r, search);
-    let change = r.weighted(CHANGES);
-    let mut bytes = parts.bytes();
+    let change = r.named();
     let count = match change {
         Change::DamagedOnce => 1,
         Change::DamagedMore => 2 + r.below(2),
         _ => 0,
     };
-    let damages: Vec<Damage> = (0..count).map(|_| r.weighted(DAMAGES)).collect();
-    match change {
-        Change::Untouched => {}
-        Change::DamagedOnce | Change::DamagedMore => {
-            let layout = Layout::of(&parts);
-            for &damage in &damages {
-                layout.damage(r, &mut bytes, damage);
-            }
-        }
-        Change::Cut => {
-            let near_the_front = r.once_in(2);
-            let most = if near_the_front { 24 } else { bytes.len() };
-            bytes.truncate(r.index(most));
-        }
-        Change::Lengthened => {
-            let more = 1 + r.index(12);
-            bytes.resize(bytes.len() + more, r.pick(&[0, 1, 255]));
-        }
-        Change::LengthenedBy65536 => bytes.resize(bytes.len() + 65_536, 0),
-        Change::OtherTermCount => {
-            let mut bodies = parts.bodies();
-            bodies[1 + r.index(parts.n - 1)] = other_term_count(r, parts.n);
-            bytes = assemble(parts.n, &bodies);
-        }
-        Change::OtherBodyLength => {
-            let mut bodies = parts.bodies();
-            let body = &mut bodies[r.index(parts.n + 1)];
-            let length = body.len() as i64 + r.pick(&[-1, 1, -4, 4, -8, 8, 2]);
-            body.resize(length.max(0) as usize, 0);
-            bytes = assemble(parts.n, &bodies);
-        }
-        Change::Noise => bytes = (0..r.below(60)).map(|_| r.byte()).collect(),
-        Change::NoiseBehind => {
-            let kept = r.index(bytes.len());
-            bytes[kept..].fill_with(|| r.byte());
-        }
-    }
+    let damages: Vec<Damage> = (0..count).map(|_| r.named()).collect();
+    let bytes = changed(r, &parts, change, &damages);
     AnyJob { bytes, kind, change, damages }
 }
 
@@ -317,7 +283,7 @@ mod tests {
     /// What Open answers to each damage alone: these answers, each of them.
     #[test]
     fn each_damage_reaches_its_refusals() {
-        for &damage in Damage::ALL {
+        for damage in Damage::all() {
             let wanted = match damage {
                 Damage::AnyByte | Damage::ByteNearby => any(),
                 Damage::FirstFour => vec![Err(2), Err(3), Err(4), OPENS],

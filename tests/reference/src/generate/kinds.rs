@@ -12,41 +12,21 @@ named! {
     /// The kinds of jobs that open.
     Kind {
         /// A small box and small coefficients.
-        Small,
+        Small: 2,
         /// Products of linear forms: 0 at many grid points.
-        ManyZeros,
+        ManyZeros: 3,
         /// Few large terms: values below, at and above the readable limit.
-        AroundReadableLimit,
+        AroundReadableLimit: 1,
         /// A curve along axis 1 out of the readable values: the trace ends at the limit.
-        IntoReadableLimit,
+        IntoReadableLimit: 2,
         /// A box up to the largest.
-        LargeBox,
+        LargeBox: 2,
         /// Each term that a body may hold, with coefficients up to the largest.
-        AllTerms,
+        AllTerms: 1,
         /// An ellipse, or an ellipsoid cut by other surfaces: mostly closed.
-        Closed,
+        Closed: 2,
     }
 }
-
-/// How often each kind is made for a test that traces.
-const TRACED: &[(Kind, u64)] = &[
-    (Kind::Small, 2),
-    (Kind::ManyZeros, 3),
-    (Kind::AroundReadableLimit, 1),
-    (Kind::IntoReadableLimit, 2),
-    (Kind::LargeBox, 2),
-    (Kind::AllTerms, 1),
-    (Kind::Closed, 2),
-];
-
-/// How often each kind is made for a test that looks at the whole box.
-const SEARCHED: &[(Kind, u64)] = &[
-    (Kind::Small, 2),
-    (Kind::ManyZeros, 3),
-    (Kind::AroundReadableLimit, 1),
-    (Kind::IntoReadableLimit, 1),
-    (Kind::Closed, 1),
-];
 
 /// How large jobs are, so that a search for a start and a trace take not much longer in one
 /// dimension than in another.
@@ -338,7 +318,7 @@ pub fn valid_of(r: &mut Random, n: usize, kind: Kind, search: bool) -> Parts {
 
 /// A job of any kind and any dimension that Open accepts.
 pub fn valid_of_any(r: &mut Random, search: bool) -> (Kind, Parts) {
-    let kind = r.weighted(TRACED);
+    let kind = r.named();
     let n = r.pick(&accepted());
     (kind, valid_of(r, n, kind, search))
 }
@@ -355,8 +335,12 @@ pub fn valid(r: &mut Random) -> (Kind, Parts) {
 
 /// A job of dimension n in a box small enough to be looked at whole.
 pub fn valid_small(r: &mut Random, n: usize) -> (Kind, Parts) {
-    let kind = r.weighted(SEARCHED);
-    (kind, valid_of(r, n, kind, true))
+    loop {
+        let kind = r.named();
+        if !matches!(kind, Kind::LargeBox | Kind::AllTerms) {
+            return (kind, valid_of(r, n, kind, true));
+        }
+    }
 }
 
 #[cfg(test)]
@@ -412,7 +396,7 @@ mod tests {
     fn each_kind_reaches_its_aim() {
         for n in DIMENSIONS {
             let mut r = Random::new(2);
-            for &kind in Kind::ALL {
+            for kind in Kind::all() {
                 let mut met = Tally::default();
                 for _ in 0..300 {
                     let parts = valid_of(&mut r, n, kind, true);

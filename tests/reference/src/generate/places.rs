@@ -13,52 +13,35 @@ named! {
     /// Where a place lies.
     PlaceKind {
         /// The job's start.
-        Start,
+        Start: 1,
         /// Some steps along the curve or at its end, now and then turned.
-        OnCurve,
+        OnCurve: 2,
         /// At most 1 from the start on each axis.
-        NearStart,
+        NearStart: 2,
         /// At most 1 from a vertex of the box.
-        NearBox,
+        NearBox: 1,
         /// At, before or behind a face of the box.
-        AtFace,
+        AtFace: 1,
         /// A coordinate at the limits of its field.
-        FarOut,
+        FarOut: 1,
     }
 }
-
-const KINDS: &[(PlaceKind, u64)] = &[
-    (PlaceKind::Start, 1),
-    (PlaceKind::OnCurve, 2),
-    (PlaceKind::NearStart, 2),
-    (PlaceKind::NearBox, 1),
-    (PlaceKind::AtFace, 1),
-    (PlaceKind::FarOut, 1),
-];
 
 named! {
     /// What is wrong with the bytes of a place, or may be.
     PlaceDamage {
         /// Nothing.
-        Untouched,
+        Untouched: 28,
         /// The side is any number.
-        Side,
+        Side: 1,
         /// A mask is any number.
-        Mask,
+        Mask: 1,
         /// Fewer than 3n bytes.
-        Cut,
+        Cut: 1,
         /// More than 3n bytes.
-        Lengthened,
+        Lengthened: 1,
     }
 }
-
-const DAMAGES: &[(PlaceDamage, u64)] = &[
-    (PlaceDamage::Untouched, 28),
-    (PlaceDamage::Side, 1),
-    (PlaceDamage::Mask, 1),
-    (PlaceDamage::Cut, 1),
-    (PlaceDamage::Lengthened, 1),
-];
 
 /// A well-formed place for a job made of these parts.
 fn place_of(r: &mut Random, parts: &Parts, kind: PlaceKind) -> Place {
@@ -103,9 +86,9 @@ pub struct AnyPlace {
 
 /// A place to judge or to step from, for a job made of these parts.
 pub fn any_place(r: &mut Random, parts: &Parts) -> AnyPlace {
-    let kind = r.weighted(KINDS);
+    let kind = r.named();
     let mut bytes = place_of(r, parts, kind).bytes();
-    let damage_done = r.weighted(DAMAGES);
+    let damage_done = r.named();
     damage(r, parts.n, &mut bytes, damage_done);
     AnyPlace { bytes, kind, damage: damage_done }
 }

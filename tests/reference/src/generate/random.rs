@@ -1,5 +1,7 @@
 //! The generator xorshift64*, and choices made with it.
 
+use crate::tally::Named;
+
 pub struct Random(u64);
 
 impl Random {
@@ -47,6 +49,11 @@ impl Random {
             left -= weight;
         }
         unreachable!("the weights sum to more")
+    }
+
+    /// One of the cases of an enum, by their weights.
+    pub fn named<T: Named>(&mut self) -> T {
+        self.weighted(T::WEIGHTS)
     }
 
     /// True once in n times.
