@@ -230,7 +230,7 @@ impl<const N: usize> Simplex<N> {
         } else if last != Self::ALL {
             let missing = Self::ALL ^ last;
             corner[missing.trailing_zeros() as usize] -= 1;
-            ((place.masks << 8) | missing * (ones(N + 1) - 1), 0)
+            ((place.masks << 8) | (missing * (ones(N + 1) - 1)), 0)
         } else {
             let bend = (1..N).find(|&k| (mask(k) ^ mask(k - 1)).count_ones() == 2);
             let bend = bend.expect("a bent facet");
@@ -305,7 +305,7 @@ impl<const N: usize> Simplex<N> {
             for a in 0..N {
                 self.corner[a] += (first >> a & 1) as i64;
             }
-            let rest = (self.masks >> 8) ^ first * ones(N);
+            let rest = (self.masks >> 8) ^ (first * ones(N));
             self.masks = rest | Self::ALL << (8 * N);
             for k in 0..N {
                 self.values[k] = self.values[k + 1];
@@ -319,7 +319,7 @@ impl<const N: usize> Simplex<N> {
             for a in 0..N {
                 self.corner[a] -= (last >> a & 1) as i64;
             }
-            self.masks = (rest << 8) | last * (ones(N + 1) - 1);
+            self.masks = (rest << 8) | (last * (ones(N + 1) - 1));
             for k in (0..N).rev() {
                 self.values[k + 1] = self.values[k];
             }
@@ -331,7 +331,7 @@ impl<const N: usize> Simplex<N> {
             let above = (self.masks >> (8 * (i + 1))) << (8 * i);
             self.masks ^= (before ^ after) << (8 * i);
             self.extra = i;
-            let side = (here ^ before < after ^ here) as u8;
+            let side = ((here ^ before) < (after ^ here)) as u8;
             Place { lowest: self.corner, masks: below | above, side }
         }
     }

@@ -51,17 +51,18 @@ fn agreed(name: &str, job: &[u8]) -> (Verdict, usize) {
     written[0].0.expect("no refusal")
 }
 
-/// One round: the time of the calls alone, each on a cleared buffer.
+/// One round: the shortest of its calls, each on a cleared buffer. Single calls are compared and
+/// not whole rounds, since a round of the slower tracer is more often interrupted.
 fn round(trace: Trace, job: &[u8], buffer: &mut [u8], repeats: usize) -> Duration {
-    let mut spent = Duration::ZERO;
+    let mut best = Duration::MAX;
     for _ in 0..repeats {
         buffer.fill(0);
         let begun = Instant::now();
         let answer = trace(black_box(job), black_box(buffer));
-        spent += begun.elapsed();
+        best = best.min(begun.elapsed());
         black_box(answer).expect("no refusal");
     }
-    spent
+    best
 }
 
 fn time(name: &str, job: &[u8]) {
@@ -74,7 +75,7 @@ fn time(name: &str, job: &[u8]) {
             *best = (*best).min(round(trace, job, &mut buffer, repeats));
         }
     }
-    let [proved, plain, careful] = best.map(|d| d.as_nanos() as f64 / (repeats * count) as f64);
+    let [proved, plain, careful] = best.map(|d| d.as_nanos() as f64 / count as f64);
     println!(
         "{name:<28} {:>5} {count:>6} {proved:>9.1} {plain:>9.1} {careful:>9.1} {:>13.2} {:>15.2}",
         verdict.word(),
