@@ -4,7 +4,8 @@
 //! Conventions, all checked by the wrapper: refusal 0 is none; beside a refusal every other
 //! field is 0; a field for an axis above n is 0; a field that the answer does not use is 0.
 
-use reference::grid::{Facet, Place};
+use reference::build::place;
+use reference::grid::{vertex, Vertex};
 use reference::operations::{Move, Step, Verdict};
 use reference::product::Product;
 
@@ -124,9 +125,11 @@ fn mark(field: u64) -> bool {
     field == 1
 }
 
-/// The dimension of a job that opens.
-fn dimension(job: &[u8]) -> usize {
-    job[1] as usize
+/// The first fields, with the others checked to be 0.
+fn used<T: PartialEq + Default>(count: usize, fields: &[T]) -> &[T] {
+    let (used, rest) = fields.split_at(count);
+    assert!(rest.iter().all(|field| *field == T::default()), "a field that is not used is 0");
+    used
 }
 
 /// The proved library.
@@ -138,14 +141,10 @@ impl Product for Library {
     #[inline]
     fn open(&self, job: &[u8]) -> Result<(usize, Vec<usize>), u8> {
         let a = unsafe { gethwapiko_open(job.as_ptr(), job.len()) };
-        refused(a.refusal, (a.n, a.terms1, a.terms2) == (0, 0, 0))?;
-        let mut counts = vec![a.terms1 as usize];
-        if a.n == 2 {
-            assert_eq!(a.terms2, 0);
-        } else {
-            counts.push(a.terms2 as usize);
-        }
-        Ok((a.n as usize, counts))
+        let terms = [a.terms1, a.terms2];
+        refused(a.refusal, a.n == 0 && terms == [0; 2])?;
+        let counts = used(a.n as usize - 1, &terms);
+        Ok((a.n as usize, counts.iter().map(|&count| count as usize).collect()))
     }
 
     #[inline]
@@ -163,24 +162,26 @@ impl Product for Library {
     }
 
     #[inline]
-    fn point(&self, job: &[u8], place: &[u8]) -> Result<[i64; 3], u8> {
+    fn point(&self, job: &[u8], place: &[u8]) -> Result<Vertex, u8> {
         let a = unsafe { gethwapiko_point(job.as_ptr(), job.len(), place.as_ptr(), place.len()) };
-        refused(a.refusal, (a.x, a.y, a.z) == (0, 0, 0))?;
-        Ok([a.x, a.y, a.z])
+        let steps = [a.x, a.y, a.z];
+        refused(a.refusal, steps == [0; 3])?;
+        Ok(vertex(&steps))
     }
 
     #[inline]
-    fn step(&self, job: &[u8], place: &[u8]) -> Result<Step, u8> {
-        let a = unsafe { gethwapiko_step(job.as_ptr(), job.len(), place.as_ptr(), place.len()) };
-        let no_place = (a.x, a.y, a.z, a.mask1, a.mask2, a.side) == (0, 0, 0, 0, 0, 0);
+    fn step(&self, job: &[u8], from: &[u8]) -> Result<Step, u8> {
+        let a = unsafe { gethwapiko_step(job.as_ptr(), job.len(), from.as_ptr(), from.len()) };
+        let (lowest, masks) = ([a.x, a.y, a.z], [a.mask1, a.mask2]);
+        let no_place = (lowest, masks, a.side) == ([0; 3], [0; 2], 0);
         refused(a.refusal, a.outcome == 0 && no_place)?;
         match a.outcome {
             0 => {
-                let n = dimension(job);
-                let masks = [a.mask1, a.mask2].map(|m| u8::try_from(m).expect("a mask"));
-                let facet = Facet { n, lowest: [a.x, a.y, a.z], masks };
-                assert!(n == 3 || (a.z, a.mask2) == (0, 0));
-                Ok(Step::Next(Place { facet, side: mark(a.side) as u8 }))
+                // The job opens, so its dimension is in byte 1.
+                let n = job[1] as usize;
+                let masks = masks.map(|mask| u8::try_from(mask).expect("a mask"));
+                let side = mark(a.side) as u8;
+                Ok(Step::Next(place(used(n, &lowest), used(n - 1, &masks), side)))
             }
             1 | 2 => {
                 assert!(no_place);

@@ -1,4 +1,4 @@
 //! The proved library as a Rust program sees it, and what the differential tests share.
 
 pub mod ffi;
-pub mod tally;
+pub mod on_places;

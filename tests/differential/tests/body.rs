@@ -1,24 +1,29 @@
 //! Body against the reference.
 
 use library::ffi::Library;
-use library::tally::Tally;
-use reference::generate::{any_job, Random};
+use reference::generate::{any_job, JobTally, Random};
+use reference::limits::accepted;
 use reference::product::{Product, Reference};
+use reference::tally::Tally;
 
 #[test]
 fn body_is_the_reference() {
     let mut r = Random::new(12);
-    let mut tally = Tally::default();
+    let (mut made, mut answers) = (JobTally::default(), Tally::default());
     for _ in 0..200_000 {
         let job = any_job(&mut r);
         let index = r.pick(&[0, 1, 2, 3, 3, 4, 5, 255, 256, 1 << 32, u64::MAX]);
-        let wanted = Reference.body(&job, index);
-        assert_eq!(Library.body(&job, index), wanted, "{index} of {job:?}");
+        let wanted = Reference.body(&job.bytes, index);
+        assert_eq!(Library.body(&job.bytes, index), wanted, "{index} of {:?}", job.bytes);
         if let Ok((offset, length)) = wanted {
-            assert!(length > 0 && offset + length <= job.len());
+            assert!(length > 0 && offset + length <= job.bytes.len());
         }
-        tally.count(&wanted, |_| format!("body {index}"));
+        made.count(&job);
+        answers.count(wanted.map(|_| index));
     }
-    let refusals = ["1", "2", "3", "4", "5", "6", "7", "8", "12"];
-    tally.assert_seen(&[&refusals[..], &["body 0", "body 1", "body 2", "body 3"]].concat());
+    made.assert_all();
+    // Box, polynomials and start of the largest dimension; 1 to 8 of Open, and Body's own 12.
+    let largest = accepted().into_iter().max().expect("a dimension") as u64;
+    let indices = (0..=largest).map(Ok);
+    answers.assert_met(&indices.chain((1..=8).chain([12]).map(Err)).collect::<Vec<_>>());
 }

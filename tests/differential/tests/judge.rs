@@ -1,36 +1,26 @@
 //! Judge against the reference.
 
 use library::ffi::Library;
-use library::tally::Tally;
-use reference::generate::{any_job, any_place, valid, Random};
+use library::on_places::OnPlaces;
 use reference::product::{Product, Reference};
+use reference::tally::Answer;
+
+const JUDGE: OnPlaces<bool> = OnPlaces {
+    library: |job, place| Library.judge(job, place),
+    reference: |job, place| Reference.judge(job, place),
+    name: |&crossed| if crossed { "crossed" } else { "not crossed" },
+};
+
+/// Judge's own answers.
+const OWN: [Answer; 5] = [Err(13), Err(9), Err(10), Ok("crossed"), Ok("not crossed")];
 
 #[test]
 fn judge_is_the_reference() {
-    let mut r = Random::new(13);
-    let mut tally = Tally::default();
-    for _ in 0..25_000 {
-        let parts = valid(&mut r);
-        let job = parts.bytes();
-        for _ in 0..8 {
-            let place = any_place(&mut r, &parts);
-            let wanted = Reference.judge(&job, &place);
-            assert_eq!(Library.judge(&job, &place), wanted, "{place:?} in {job:?}");
-            tally.count(&wanted, |crossed| format!("crossed {crossed}"));
-        }
-    }
-    tally.assert_seen(&["9", "10", "13", "crossed false", "crossed true"]);
+    JUDGE.valid_jobs(13, 25_000, 8).assert_met(&OWN);
 }
 
 /// The job is opened first, whatever the place.
 #[test]
 fn judge_opens_first() {
-    let mut r = Random::new(14);
-    for _ in 0..20_000 {
-        let parts = valid(&mut r);
-        let job = any_job(&mut r);
-        let place = any_place(&mut r, &parts);
-        let wanted = Reference.judge(&job, &place);
-        assert_eq!(Library.judge(&job, &place), wanted, "{place:?} in {job:?}");
-    }
+    JUDGE.any_jobs(14, 20_000);
 }

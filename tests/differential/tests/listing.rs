@@ -5,9 +5,10 @@ use std::path::PathBuf;
 use std::process::{Command, Stdio};
 
 use reference::build::case_a;
-use reference::generate::{any_job, valid, Random};
+use reference::generate::{any_job, valid, JobTally, Random};
 use reference::listing::listing;
 use reference::marked::CASE_A_LISTING;
+use reference::tally::Tally;
 
 /// The program; the test fails if it has not been built.
 fn program() -> PathBuf {
@@ -66,9 +67,18 @@ fn examples() {
 #[test]
 fn listing_is_the_reference() {
     let mut r = Random::new(23);
-    let jobs: Vec<Vec<u8>> = (0..10_000)
-        .map(|k| if k % 2 == 0 { any_job(&mut r) } else { valid(&mut r).bytes() })
-        .collect();
+    let (mut made, mut kinds) = (JobTally::default(), Tally::default());
+    let mut jobs = Vec::new();
+    for _ in 0..5_000 {
+        let job = any_job(&mut r);
+        made.count(&job);
+        jobs.push(job.bytes);
+        let (kind, parts) = valid(&mut r);
+        kinds.count(kind);
+        jobs.push(parts.bytes());
+    }
+    made.assert_all();
+    kinds.assert_all();
     // Most of the time goes into starting the program, so a few are started side by side.
     std::thread::scope(|scope| {
         for part in jobs.chunks(jobs.len() / 4) {

@@ -1,53 +1,67 @@
 //! Pen against the reference.
 
 use library::ffi::Library;
-use library::tally::Tally;
-use reference::generate::{any_job, any_place, valid, Random};
+use library::on_places::and_those_of_open;
+use reference::build::Parts;
+use reference::generate::{any_job, any_place, valid, JobTally, PlaceTally, Random};
 use reference::operations::Move;
 use reference::product::{Product, Reference};
+use reference::tally::{Answer, Tally};
 
-/// A move with its floats as bits.
-fn bits(answer: &Result<Move, u8>) -> Result<(u8, [u64; 3]), u8> {
+/// A move by its name and with its floats as bits.
+fn bits(answer: &Result<Move, u8>) -> Result<(&'static str, [u64; 3]), u8> {
     match answer {
-        Ok(Move::Lift(point)) => Ok((0, point.map(f64::to_bits))),
-        Ok(Move::Draw(point)) => Ok((1, point.map(f64::to_bits))),
-        Ok(Move::Close) => Ok((2, [0; 3])),
+        Ok(Move::Lift(point)) => Ok(("lift", point.map(f64::to_bits))),
+        Ok(Move::Draw(point)) => Ok(("draw", point.map(f64::to_bits))),
+        Ok(Move::Close) => Ok(("close", [0; 3])),
         Err(number) => Err(*number),
     }
+}
+
+/// Up to four places of a trace, now and then any place behind them, now and then a byte more.
+fn some_places(r: &mut Random, parts: &Parts, made: &mut PlaceTally) -> Vec<u8> {
+    let size = 3 * parts.n;
+    let mut places = vec![0; size * r.index(5)];
+    let count = Reference.trace(&parts.bytes(), &mut places).map_or(0, |(_, count)| count);
+    places.truncate(size * count);
+    if r.once_in(3) {
+        let place = any_place(r, parts);
+        made.count(&place);
+        places.extend(place.bytes);
+    }
+    if r.once_in(10) {
+        places.push(0);
+    }
+    places
 }
 
 #[test]
 fn pen_is_the_reference() {
     let mut r = Random::new(22);
-    let mut tally = Tally::default();
+    let (mut jobs, mut made) = (JobTally::default(), PlaceTally::default());
+    let mut answers: Tally<Answer> = Tally::default();
     for _ in 0..30_000 {
-        let parts = valid(&mut r);
-        let job = if r.once_in(10) { any_job(&mut r) } else { parts.bytes() };
-        // Some places of a trace, and now and then any place among them.
-        let size = 3 * parts.n;
-        let mut places = vec![0; size * r.below(5) as usize];
-        let count = Reference.trace(&parts.bytes(), &mut places).map_or(0, |(_, count)| count);
-        places.truncate(size * count);
-        if r.once_in(3) {
-            places.extend(any_place(&mut r, &parts));
-        }
+        let (_, parts) = valid(&mut r);
+        let mut job = parts.bytes();
         if r.once_in(10) {
-            places.push(0);
+            let other = any_job(&mut r);
+            jobs.count(&other);
+            job = other.bytes;
         }
-        let m = (places.len() / size) as u64;
+        let places = some_places(&mut r, &parts, &mut made);
+        let m = (places.len() / (3 * parts.n)) as u64;
         for _ in 0..5 {
+            // Large ones too, which times 3n leave 64 bits or come close to that.
             let k = r.pick(&[0, 1, m, m.max(1) - 1, m + 1, 2, 1 << 32, u64::MAX, u64::MAX / 6]);
             let closed = r.once_in(2);
-            let wanted = Reference.pen(&job, &places, closed, k);
-            let found = Library.pen(&job, &places, closed, k);
-            assert_eq!(bits(&found), bits(&wanted), "{k} {closed} of {places:?} in {job:?}");
-            tally.count(&wanted, |pen| match pen {
-                Move::Lift(_) => "lift".to_string(),
-                Move::Draw(_) => "draw".to_string(),
-                Move::Close => "close".to_string(),
-            });
+            let wanted = bits(&Reference.pen(&job, &places, closed, k));
+            let found = bits(&Library.pen(&job, &places, closed, k));
+            assert_eq!(found, wanted, "{k} {closed} of {places:?} in {job:?}");
+            answers.count(wanted.map(|(name, _)| name));
         }
     }
-    let refusals = ["1", "2", "3", "4", "5", "6", "7", "8", "9", "10", "11", "12", "13"];
-    tally.assert_seen(&[&refusals[..], &["lift", "draw", "close"]].concat());
+    jobs.assert_all();
+    made.assert_all();
+    let own = [9, 10, 11, 12, 13].map(Err).into_iter().chain(["lift", "draw", "close"].map(Ok));
+    answers.assert_met(&and_those_of_open(&own.collect::<Vec<_>>()));
 }

@@ -1,45 +1,47 @@
 //! Step against the reference.
 
 use library::ffi::Library;
-use library::tally::Tally;
-use reference::generate::{any_job, any_place, valid, Random};
+use library::on_places::OnPlaces;
 use reference::operations::Step;
 use reference::product::{Product, Reference};
+use reference::tally::Answer;
+
+const STEP: OnPlaces<Step> = OnPlaces {
+    library: |job, place| Library.step(job, place),
+    reference: |job, place| Reference.step(job, place),
+    name: |step| match step {
+        Step::Next(next) => match (next.facet.is_flat(), next.side) {
+            (true, 0) => "flat, side 0",
+            (true, _) => "flat, side 1",
+            (false, 0) => "bent, side 0",
+            (false, _) => "bent, side 1",
+        },
+        Step::Edge => "edge",
+        Step::Limit => "limit",
+    },
+};
+
+/// Step's own answers.
+const OWN: [Answer; 10] = [
+    Err(13),
+    Err(9),
+    Err(10),
+    Err(11),
+    Ok("flat, side 0"),
+    Ok("flat, side 1"),
+    Ok("bent, side 0"),
+    Ok("bent, side 1"),
+    Ok("edge"),
+    Ok("limit"),
+];
 
 #[test]
 fn step_is_the_reference() {
-    let mut r = Random::new(17);
-    let mut tally = Tally::default();
-    for _ in 0..30_000 {
-        let parts = valid(&mut r);
-        let job = parts.bytes();
-        for _ in 0..6 {
-            let place = any_place(&mut r, &parts);
-            let wanted = Reference.step(&job, &place);
-            assert_eq!(Library.step(&job, &place), wanted, "{place:?} in {job:?}");
-            tally.count(&wanted, |step| match step {
-                Step::Next(place) => {
-                    let kind = if place.facet.is_flat() { "flat" } else { "bent" };
-                    format!("next {kind} {}", place.side)
-                }
-                Step::Edge => "edge".to_string(),
-                Step::Limit => "limit".to_string(),
-            });
-        }
-    }
-    let next = ["next flat 0", "next flat 1", "next bent 0", "next bent 1", "edge", "limit"];
-    tally.assert_seen(&[&["9", "10", "11", "13"], &next[..]].concat());
+    STEP.valid_jobs(17, 30_000, 6).assert_met(&OWN);
 }
 
 /// The job is opened first, whatever the place.
 #[test]
 fn step_opens_first() {
-    let mut r = Random::new(18);
-    for _ in 0..20_000 {
-        let parts = valid(&mut r);
-        let job = any_job(&mut r);
-        let place = any_place(&mut r, &parts);
-        let wanted = Reference.step(&job, &place);
-        assert_eq!(Library.step(&job, &place), wanted, "{place:?} in {job:?}");
-    }
+    STEP.any_jobs(18, 20_000);
 }

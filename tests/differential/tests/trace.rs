@@ -2,14 +2,19 @@
 //! one, one less than needed, just enough, more, and lengths between two counts of places.
 
 use library::ffi::Library;
-use library::tally::Tally;
-use reference::generate::{any_job, valid, Random};
+use library::on_places::and_those_of_open;
+use reference::generate::{any_job, valid, JobTally, Random};
 use reference::operations::Verdict;
 use reference::product::{Product, Reference};
+use reference::tally::{Answer, Tally};
+
+/// Trace's own answers.
+const OWN: [Answer; 7] =
+    [Err(9), Err(10), Err(11), Ok("loop"), Ok("edge"), Ok("limit"), Ok("full")];
 
 /// A buffer of noise, so that a byte that is written or kept wrongly shows.
 fn noise(r: &mut Random, length: usize) -> Vec<u8> {
-    (0..length).map(|_| r.next() as u8).collect()
+    (0..length).map(|_| r.byte()).collect()
 }
 
 fn compare(r: &mut Random, job: &[u8], length: usize) -> Result<(Verdict, usize), u8> {
@@ -25,53 +30,64 @@ fn compare(r: &mut Random, job: &[u8], length: usize) -> Result<(Verdict, usize)
     wanted
 }
 
+/// An answer by its name.
+fn name(answer: Result<(Verdict, usize), u8>) -> Answer {
+    answer.map(|(verdict, _)| verdict.word())
+}
+
 #[test]
 fn trace_is_the_reference() {
     let mut r = Random::new(19);
-    let mut tally = Tally::default();
+    let mut kinds = Tally::default();
+    let (mut with_space, mut around): (Tally<Answer>, Tally<Answer>) = Default::default();
     for _ in 0..100_000 {
-        let parts = valid(&mut r);
+        let (kind, parts) = valid(&mut r);
         let job = parts.bytes();
         let size = 3 * parts.n;
+        kinds.count(kind);
         // Space enough for most traces first; then one length around the count.
-        let most = size * 150;
-        let answer = compare(&mut r, &job, most);
-        tally.count(&answer, |(verdict, _)| verdict.word().to_string());
+        let answer = compare(&mut r, &job, size * 150);
+        with_space.count(name(answer));
         let count = answer.map_or(0, |(_, count)| count);
         let space = r.pick(&[0, 1, count.max(1) - 1, count, count + 1, count + 7]).min(20);
         let length = size * space + r.pick(&[0, 0, 1, size - 1]);
-        let answer = compare(&mut r, &job, length);
-        tally.count(&answer, |(verdict, _)| format!("{} again", verdict.word()));
+        around.count(name(compare(&mut r, &job, length)));
     }
-    let verdicts = ["loop", "edge", "limit", "full"];
-    let again = ["loop again", "edge again", "limit again", "full again"];
-    tally.assert_seen(&[&["9", "10", "11"], &verdicts[..], &again[..]].concat());
+    kinds.assert_all();
+    with_space.assert_met(&OWN);
+    around.assert_met(&OWN);
 }
 
 /// All the named spaces, on closed and open curves.
 #[test]
 fn each_space_around_the_count() {
     let mut r = Random::new(20);
+    let mut answers: Tally<Answer> = Tally::default();
     for _ in 0..2_000 {
-        let parts = valid(&mut r);
+        let (_, parts) = valid(&mut r);
         let job = parts.bytes();
         let size = 3 * parts.n;
         let count = compare(&mut r, &job, size * 100).map_or(0, |(_, count)| count);
         for space in [0, 1, count.max(1) - 1, count, count + 1, count + 5] {
             for more in [0, 1, size - 1] {
-                compare(&mut r, &job, size * space + more).ok();
+                answers.count(name(compare(&mut r, &job, size * space + more)));
             }
         }
     }
+    answers.assert_met(&OWN);
 }
 
 /// A job that does not open leaves the buffer as it was.
 #[test]
 fn trace_opens_first() {
     let mut r = Random::new(21);
+    let (mut made, mut answers) = (JobTally::default(), Tally::default());
     for _ in 0..50_000 {
         let job = any_job(&mut r);
-        let length = r.below(200) as usize;
-        compare(&mut r, &job, length).ok();
+        let length = r.index(200);
+        answers.count(name(compare(&mut r, &job.bytes, length)));
+        made.count(&job);
     }
+    made.assert_all();
+    answers.assert_met(&and_those_of_open(&OWN));
 }

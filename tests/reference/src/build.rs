@@ -1,8 +1,12 @@
 //! Jobs from their parts, for tests and tools: contents first, then bodies.
 
+use std::sync::OnceLock;
+
+use crate::cartesian::cartesian;
 use crate::crossed::Term;
-use crate::grid::{Facet, Place};
+use crate::grid::{vertex, Facet, Place};
 use crate::job::Job;
+use crate::limits::{LARGEST_DEGREE, MOST};
 
 /// The parts of a job.
 #[derive(Clone, Debug)]
@@ -13,9 +17,28 @@ pub struct Parts {
     pub start: Place,
 }
 
-/// A term of coefficient and exponents for axes 1 to 3.
-pub fn term(coefficient: i64, x: u8, y: u8, z: u8) -> Term {
-    Term { coefficient, exponents: [x, y, z, 0] }
+/// A term of coefficient and exponents, from axis 1 on; those not given are 0.
+pub fn term(coefficient: i64, exponents: &[u8]) -> Term {
+    let mut all = [0; MOST];
+    all[..exponents.len()].copy_from_slice(exponents);
+    Term { coefficient, exponents: all }
+}
+
+/// The exponents of one axis to a power.
+pub fn power_of(axis: usize, power: u8) -> [u8; MOST] {
+    let mut exponents = [0; MOST];
+    exponents[axis - 1] = power;
+    exponents
+}
+
+/// All exponents that a term may have, in rising order.
+pub fn exponents(n: usize) -> &'static [[u8; MOST]] {
+    static TABLES: [OnceLock<Vec<[u8; MOST]>>; MOST + 1] = [const { OnceLock::new() }; MOST + 1];
+    TABLES[n].get_or_init(|| {
+        let mut all: Vec<[u8; MOST]> = cartesian(&vec![(0..=LARGEST_DEGREE as u8).collect(); n]);
+        all.retain(|e| e.iter().map(|&p| p as u32).sum::<u32>() <= LARGEST_DEGREE);
+        all
+    })
 }
 
 /// Like terms gathered, zeros left out, in rising order.
@@ -38,8 +61,8 @@ pub fn product(a: &[Term], b: &[Term]) -> Vec<Term> {
     for s in a {
         for t in b {
             let mut exponents = s.exponents;
-            for k in 0..4 {
-                exponents[k] += t.exponents[k];
+            for (e, more) in exponents.iter_mut().zip(t.exponents) {
+                *e += more;
             }
             all.push(Term { coefficient: s.coefficient * t.coefficient, exponents });
         }
@@ -47,9 +70,13 @@ pub fn product(a: &[Term], b: &[Term]) -> Vec<Term> {
     gathered(&all)
 }
 
-/// A place of the first n coordinates and n - 1 masks given.
-pub fn place(n: usize, lowest: [i64; 3], masks: [u8; 2], side: u8) -> Place {
-    Place { facet: Facet { n, lowest, masks }, side }
+/// A place of the n coordinates and n - 1 masks given.
+pub fn place(lowest: &[i64], masks: &[u8], side: u8) -> Place {
+    let n = lowest.len();
+    assert_eq!(masks.len(), n - 1);
+    let mut all = [0; MOST - 1];
+    all[..n - 1].copy_from_slice(masks);
+    Place { facet: Facet { n, lowest: vertex(lowest), masks: all }, side }
 }
 
 impl Parts {
@@ -111,8 +138,8 @@ pub fn case_a() -> Parts {
     Parts {
         n: 2,
         ends: vec![(-1, 1), (-1, 1)],
-        polynomials: vec![vec![term(-1, 0, 0, 0), term(2, 0, 2, 0), term(2, 2, 0, 0)]],
-        start: place(2, [0, 0, 0], [1, 0], 0),
+        polynomials: vec![vec![term(-1, &[0, 0]), term(2, &[0, 2]), term(2, &[2, 0])]],
+        start: place(&[0, 0], &[1], 0),
     }
 }
 
@@ -121,7 +148,22 @@ pub fn case_c() -> Parts {
     Parts {
         n: 3,
         ends: vec![(0, 1), (0, 1), (0, 1)],
-        polynomials: vec![vec![term(1, 1, 0, 0)], vec![term(1, 0, 1, 0)]],
-        start: place(3, [0, 0, 0], [1, 3], 0),
+        polynomials: vec![vec![term(1, &[1, 0, 0])], vec![term(1, &[0, 1, 0])]],
+        start: place(&[0, 0, 0], &[1, 3], 0),
+    }
+}
+
+#[cfg(test)]
+mod tests {
+    use super::*;
+    use crate::limits::{Limits, DIMENSIONS};
+
+    /// A body may hold each of them once.
+    #[test]
+    fn as_many_exponents_as_terms() {
+        for n in DIMENSIONS {
+            assert_eq!(exponents(n).len(), Limits::of(n).terms);
+            assert!(exponents(n).windows(2).all(|pair| pair[0] < pair[1]));
+        }
     }
 }

@@ -1,41 +1,28 @@
-//! "Crossed": values, readable, the determinant, the tie rule, the point.
+//! "Crossed": values, readable, the determinant, the tie rule, the point, over any n.
 
-use crate::grid::{has, Facet, Vertex, MOST};
-
-/// A value is readable from -READABLE to READABLE.
-pub const READABLE: i128 = 268_435_456;
+use crate::grid::{has, Facet, Vertex};
+use crate::limits::MOST;
 
 /// A term: coefficient and exponents for axes 1 to 4.
 #[derive(Clone, Copy, PartialEq, Eq, Debug)]
 pub struct Term {
     pub coefficient: i64,
-    pub exponents: [u8; 4],
+    pub exponents: [u8; MOST],
 }
 
-/// x to the power e; 0 to the power 0 is 1.
-fn power(x: i64, e: u8) -> i128 {
-    let mut product = 1i128;
-    for _ in 0..e {
-        product *= x as i128;
-    }
-    product
-}
-
-/// The polynomial's exact sum at a vertex.
+/// The polynomial's exact sum at a vertex; 0 to the power 0 is 1.
 pub fn value(polynomial: &[Term], v: &Vertex) -> i128 {
-    let mut sum = 0i128;
+    let mut sum = 0;
     for term in polynomial {
         let mut product = term.coefficient as i128;
-        for axis in 1..=MOST {
-            product *= power(v[axis - 1], term.exponents[axis - 1]);
+        for (&x, &e) in v.iter().zip(&term.exponents) {
+            for _ in 0..e {
+                product *= x as i128;
+            }
         }
         sum += product;
     }
     sum
-}
-
-pub fn is_readable(value: i128) -> bool {
-    (-READABLE..=READABLE).contains(&value)
 }
 
 /// A column of the determinant D: 1, f1(w), .., f(n-1)(w) (the first n entries).
@@ -43,7 +30,7 @@ pub type Column = [i128; MOST];
 
 /// The column of a vertex.
 pub fn column(polynomials: &[Vec<Term>], v: &Vertex) -> Column {
-    let mut column = [0i128; MOST];
+    let mut column = [0; MOST];
     column[0] = 1;
     for (k, polynomial) in polynomials.iter().enumerate() {
         column[k + 1] = value(polynomial, v);
@@ -51,69 +38,47 @@ pub fn column(polynomials: &[Vec<Term>], v: &Vertex) -> Column {
     column
 }
 
-/// The permutations of 0 .. n-1: entry i is the row taken from column i.
-fn permutations(n: usize) -> &'static [&'static [usize]] {
-    match n {
-        2 => &[&[0, 1], &[1, 0]],
-        3 => &[&[0, 1, 2], &[0, 2, 1], &[1, 0, 2], &[1, 2, 0], &[2, 0, 1], &[2, 1, 0]],
-        _ => panic!("no permutations for this dimension"),
-    }
-}
-
-/// 1 or -1 as the number of pairs out of order is even or odd.
-fn sign(permutation: &[usize]) -> i128 {
-    let mut sign = 1;
-    for i in 0..permutation.len() {
-        for k in i + 1..permutation.len() {
-            if permutation[i] > permutation[k] {
-                sign = -sign;
-            }
-        }
-    }
-    sign
-}
-
-/// The determinant, by Leibniz' formula.
-pub fn determinant(columns: &[Column]) -> i128 {
+/// The determinant of a matrix of n columns, of the rows from `row` on and the columns not yet
+/// taken, by Laplace's expansion along the first of these rows. `entry` is by column and row.
+fn expanded(n: usize, entry: &impl Fn(usize, usize) -> i128, row: usize, taken: u8) -> i128 {
     let mut sum = 0;
-    for rows in permutations(columns.len()) {
-        let mut product = sign(rows);
-        for (i, &row) in rows.iter().enumerate() {
-            product *= columns[i][row];
+    let mut odd = false;
+    for i in (0..n).filter(|i| taken >> i & 1 == 0) {
+        let factor = if odd { -entry(i, row) } else { entry(i, row) };
+        if row == n - 1 {
+            return factor;
         }
-        sum += product;
+        if factor != 0 {
+            sum += factor * expanded(n, entry, row + 1, taken | 1 << i);
+        }
+        odd = !odd;
     }
     sum
 }
 
-/// The determinant with (1, e, .., e to the n-1) in place of column i, as the coefficients
-/// of the powers of e: each product of Leibniz' formula takes one entry from that column,
-/// and the row of that entry is the power.
-pub fn coefficients(columns: &[Column], i: usize) -> [i128; MOST] {
-    let mut sums = [0i128; MOST];
-    for rows in permutations(columns.len()) {
-        let mut product = sign(rows);
-        for (k, &row) in rows.iter().enumerate() {
-            if k != i {
-                product *= columns[k][row];
-            }
-        }
-        sums[rows[i]] += product;
-    }
-    sums
+/// The determinant of n columns.
+pub fn determinant(columns: &[Column]) -> i128 {
+    expanded(columns.len(), &|i, row| columns[i][row], 0, 0)
+}
+
+/// With (1, e, .., e to the n-1) in place of column i, the determinant's coefficient of a
+/// power of e: column i is 1 in the row of the power and 0 in the others.
+pub fn coefficient(columns: &[Column], i: usize, power: usize) -> i128 {
+    let entry =
+        |k: usize, row: usize| if k == i { (row == power) as i128 } else { columns[k][row] };
+    expanded(columns.len(), &entry, 0, 0)
 }
 
 /// D is not 0 and, for every i, the first non-zero coefficient in rising powers has the
 /// sign of D.
 pub fn is_crossed(columns: &[Column]) -> bool {
+    let n = columns.len();
     let d = determinant(columns);
-    if d == 0 {
-        return false;
-    }
-    (0..columns.len()).all(|i| {
-        let first = coefficients(columns, i).into_iter().find(|&a| a != 0);
-        first.is_some_and(|a| a.signum() == d.signum())
-    })
+    d != 0
+        && (0..n).all(|i| {
+            let first = (0..n).map(|power| coefficient(columns, i, power)).find(|&a| a != 0);
+            first.is_some_and(|a| a.signum() == d.signum())
+        })
 }
 
 /// The quotient rounded down.
@@ -128,16 +93,12 @@ pub fn floor(numerator: i128, denominator: i128) -> i128 {
 }
 
 /// The point of a crossed facet, in steps of 1/1024; 0 for axes above n.
-pub fn point(facet: &Facet, columns: &[Column]) -> [i64; MOST] {
+pub fn point(facet: &Facet, columns: &[Column]) -> Vertex {
     let d = determinant(columns);
-    let mut steps = [0i64; MOST];
+    let mut steps = [0; MOST];
     for axis in 1..=facet.n {
-        let mut weights = 0i128;
-        for i in 0..facet.n {
-            if has(facet.mask(i), axis) {
-                weights += coefficients(columns, i)[0];
-            }
-        }
+        let above = (0..facet.n).filter(|&i| has(facet.mask(i), axis));
+        let weights: i128 = above.map(|i| coefficient(columns, i, 0)).sum();
         let share = floor(1024 * weights, d);
         steps[axis - 1] = (1024 * facet.lowest[axis - 1] as i128 + share) as i64;
     }
@@ -147,6 +108,8 @@ pub fn point(facet: &Facet, columns: &[Column]) -> [i64; MOST] {
 #[cfg(test)]
 mod tests {
     use super::*;
+    use crate::cartesian::cartesian;
+    use crate::limits::DIMENSIONS;
 
     #[test]
     fn rounding_goes_down() {
@@ -158,42 +121,107 @@ mod tests {
         assert_eq!(floor(7, 2), 3);
     }
 
-    /// For n = 2: one value is above 0 and the other is 0 or below.
+    /// Every column of dimension n whose values are from -size to size.
+    fn small_columns(n: usize, size: i128) -> Vec<Column> {
+        let mut rows = vec![(-size..=size).collect(); n];
+        rows[0] = vec![1];
+        cartesian(&rows)
+    }
+
+    /// Some columns of dimension n, no two alike.
+    fn some_columns(n: usize) -> Vec<Column> {
+        let columns: [Column; MOST] = [[1, 7, -2, 5], [1, -3, 4, 0], [1, 2, 6, -8], [1, 0, -1, 3]];
+        columns[..n]
+            .iter()
+            .map(|column| std::array::from_fn(|k| if k < n { column[k] } else { 0 }))
+            .collect()
+    }
+
+    /// The product of the differences, for columns of powers; another sign if two columns
+    /// are exchanged.
     #[test]
-    fn crossed_in_dimension_two() {
-        for a in -3..=3i128 {
-            for b in -3..=3i128 {
-                let columns = [[1, a, 0], [1, b, 0]];
-                assert_eq!(is_crossed(&columns), (a > 0) != (b > 0), "{a} {b}");
+    fn determinants() {
+        for n in DIMENSIONS {
+            let at = [2, 3, 5, -1];
+            let powers = |x: i128| std::array::from_fn(|k| x.pow(k as u32));
+            let mut columns: Vec<Column> = at[..n].iter().map(|&x| powers(x)).collect();
+            let pairs = (0..n).flat_map(|k| (0..k).map(move |i| at[k] - at[i]));
+            let product: i128 = pairs.product();
+            assert_eq!(determinant(&columns), product);
+            columns.swap(0, n - 1);
+            assert_eq!(determinant(&columns), -product);
+            assert_eq!(determinant(&vec![columns[0]; n]), 0);
+        }
+    }
+
+    /// The coefficients, each times its power, sum to the determinant with the powers of e in
+    /// place of the column; and for each e all of these sum to D.
+    #[test]
+    fn coefficients_of_powers() {
+        for n in DIMENSIONS {
+            let columns = some_columns(n);
+            for e in [-3i128, 0, 1, 2, 10] {
+                let power = |k: usize| e.pow(k as u32);
+                let sums: Vec<i128> = (0..n)
+                    .map(|i| (0..n).map(|k| coefficient(&columns, i, k) * power(k)).sum())
+                    .collect();
+                for i in 0..n {
+                    let mut replaced = columns.clone();
+                    replaced[i] = std::array::from_fn(power);
+                    assert_eq!(determinant(&replaced), sums[i]);
+                }
+                assert_eq!(sums.iter().sum::<i128>(), determinant(&columns));
             }
         }
     }
 
-    /// A simplex has no crossed facet or exactly two, for all small values in dimension 3,
-    /// exact zeros included.
+    /// For n = 2: one value is above 0 and the other is 0 or below.
     #[test]
-    fn crossed_facets_of_a_simplex() {
-        let columns: Vec<Column> =
-            (-1..=1).flat_map(|a| (-1..=1).map(move |b| [1, a, b])).collect();
-        let mut with_two = 0;
-        for p in &columns {
-            for q in &columns {
-                for r in &columns {
-                    for s in &columns {
-                        let all = [*p, *q, *r, *s];
-                        let crossed = (0..4)
-                            .filter(|&i| {
-                                let mut facet = all.to_vec();
-                                facet.remove(i);
-                                is_crossed(&facet)
-                            })
-                            .count();
-                        assert!(crossed == 0 || crossed == 2);
-                        with_two += (crossed == 2) as u32;
-                    }
+    fn crossed_in_dimension_two() {
+        for a in small_columns(2, 3) {
+            for b in small_columns(2, 3) {
+                assert_eq!(is_crossed(&[a, b]), (a[1] > 0) != (b[1] > 0), "{a:?} {b:?}");
+            }
+        }
+    }
+
+    /// Crossed does not depend on the order of the columns: enough to exchange neighbours.
+    #[test]
+    fn crossed_in_any_order() {
+        for n in DIMENSIONS {
+            let some: Vec<Column> = small_columns(n, 1).into_iter().step_by(n - 1).collect();
+            let lists: Vec<[Column; MOST]> = cartesian(&vec![some; n]);
+            for list in lists {
+                for i in 1..n {
+                    let mut exchanged = list;
+                    exchanged.swap(i - 1, i);
+                    assert_eq!(is_crossed(&list[..n]), is_crossed(&exchanged[..n]));
                 }
             }
         }
-        assert!(with_two > 0);
+    }
+
+    /// A simplex has no crossed facet or exactly two, for all values from -1 to 1 (in
+    /// dimension 2 from -3 to 3), exact zeros included. The order of the vertices does not
+    /// matter, so each set of columns is looked at once.
+    #[test]
+    fn crossed_facets_of_a_simplex() {
+        for (n, size) in DIMENSIONS.into_iter().zip([3, 1, 1]) {
+            let columns = small_columns(n, size);
+            let mut chosen = vec![0; n + 1];
+            let mut with_two = 0;
+            loop {
+                let all: Vec<Column> = chosen.iter().map(|&k| columns[k]).collect();
+                let without = |i: usize| [&all[..i], &all[i + 1..]].concat();
+                let crossed = (0..=n).filter(|&i| is_crossed(&without(i))).count();
+                assert!(crossed == 0 || crossed == 2, "{all:?}");
+                with_two += (crossed == 2) as u32;
+                // The next choice that does not fall from one vertex to the next.
+                let Some(at) = chosen.iter().rposition(|&k| k + 1 < columns.len()) else { break };
+                let next = chosen[at] + 1;
+                chosen[at..].fill(next);
+            }
+            assert!(with_two > 0);
+        }
     }
 }

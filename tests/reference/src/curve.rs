@@ -3,25 +3,14 @@
 
 use std::collections::{HashMap, HashSet};
 
+use crate::cartesian::cartesian;
 use crate::grid::{chains, orders, Facet, Place, Simplex, Vertex};
 use crate::job::Job;
 use crate::operations::{facet_is_crossed, look, Look};
 
 /// Every lattice vertex of the box.
 pub fn vertices_of_box(job: &Job) -> Vec<Vertex> {
-    let mut all = vec![[0i64; 3]];
-    for (k, &(low, high)) in job.ends.iter().enumerate() {
-        let mut longer = Vec::new();
-        for v in &all {
-            for x in low..=high {
-                let mut w = *v;
-                w[k] = x;
-                longer.push(w);
-            }
-        }
-        all = longer;
-    }
-    all
+    cartesian(&job.ends.iter().map(|&(low, high)| (low..=high).collect()).collect::<Vec<_>>())
 }
 
 /// Every crossed facet of the box with readable values.
@@ -50,7 +39,7 @@ impl Joints {
             shares.insert(facet, Vec::new());
         }
         for corner in vertices_of_box(job) {
-            for &order in orders(job.n) {
+            for order in orders(job.n) {
                 let simplex = Simplex { corner, order };
                 if let Look::Readable(crossed) = look(job, &simplex) {
                     assert!(crossed.is_empty() || crossed.len() == 2, "no crossed facet or two");

@@ -1,10 +1,22 @@
-//! "The grid": masks, vertices, simplices, facets, places.
+//! "The grid": masks, vertices, simplices, facets, places, over any n up to `MOST`.
 
-/// The largest dimension of the paper.
-pub const MOST: usize = 3;
+use std::sync::OnceLock;
+
+use crate::cartesian::cartesian;
+use crate::limits::MOST;
 
 /// Whole coordinates by axis; entries above axis n are 0.
 pub type Vertex = [i64; MOST];
+
+/// The n - 1 masks of a facet; the entries behind them are 0.
+pub type Masks = [u8; MOST - 1];
+
+/// The vertex of the coordinates given, from axis 1 on.
+pub fn vertex(coordinates: &[i64]) -> Vertex {
+    let mut v = [0; MOST];
+    v[..coordinates.len()].copy_from_slice(coordinates);
+    v
+}
 
 /// Whether the mask has the axis (axes are numbered from 1).
 pub fn has(mask: u8, axis: usize) -> bool {
@@ -15,27 +27,28 @@ pub fn has(mask: u8, axis: usize) -> bool {
 pub fn above(lowest: &Vertex, mask: u8) -> Vertex {
     let mut v = *lowest;
     for axis in 1..=MOST {
-        if has(mask, axis) {
-            v[axis - 1] += 1;
-        }
+        v[axis - 1] += has(mask, axis) as i64;
     }
     v
 }
 
-/// The orders of the axes, for n = 2.
-pub const ORDERS_2: [&[usize]; 2] = [&[1, 2], &[2, 1]];
-
-/// The orders of the axes, for n = 3.
-pub const ORDERS_3: [&[usize]; 6] =
-    [&[1, 2, 3], &[1, 3, 2], &[2, 1, 3], &[2, 3, 1], &[3, 1, 2], &[3, 2, 1]];
-
-/// The fixed table of orders.
-pub fn orders(n: usize) -> &'static [&'static [usize]] {
-    match n {
-        2 => &ORDERS_2,
-        3 => &ORDERS_3,
-        _ => panic!("no table of orders for this dimension"),
+/// All orders of the axes given, the first axis in rising order.
+fn orders_of(axes: &[usize]) -> Vec<Vec<usize>> {
+    if axes.is_empty() {
+        return vec![Vec::new()];
     }
+    let mut all = Vec::new();
+    for &first in axes {
+        let others: Vec<usize> = axes.iter().copied().filter(|&axis| axis != first).collect();
+        all.extend(orders_of(&others).into_iter().map(|order| [&[first], &order[..]].concat()));
+    }
+    all
+}
+
+/// The fixed table of orders of the n axes.
+pub fn orders(n: usize) -> &'static [Vec<usize>] {
+    static TABLES: [OnceLock<Vec<Vec<usize>>>; MOST + 1] = [const { OnceLock::new() }; MOST + 1];
+    TABLES[n].get_or_init(|| orders_of(&(1..=n).collect::<Vec<_>>()))
 }
 
 /// A corner and an order of the n axes.
@@ -66,7 +79,7 @@ impl Simplex {
         let all = self.vertices();
         let left = |k: usize| if k < i { all[k] } else { all[k + 1] };
         let lowest = left(0);
-        let mut masks = [0u8; MOST - 1];
+        let mut masks = [0; MOST - 1];
         for k in 1..n {
             for axis in 1..=n {
                 match left(k)[axis - 1] - lowest[axis - 1] {
@@ -80,12 +93,12 @@ impl Simplex {
     }
 }
 
-/// A lowest vertex and n - 1 masks (the first n - 1 entries; the others are 0).
+/// A lowest vertex and n - 1 masks.
 #[derive(Clone, Copy, PartialEq, Eq, Hash, PartialOrd, Ord, Debug)]
 pub struct Facet {
     pub n: usize,
     pub lowest: Vertex,
-    pub masks: [u8; MOST - 1],
+    pub masks: Masks,
 }
 
 /// Each mask is non-zero and strictly holds the one before; bits for axes above n are 0.
@@ -102,12 +115,22 @@ pub fn is_chain(n: usize, masks: &[u8]) -> bool {
     true
 }
 
+/// Every chain of n - 1 masks that a facet can have, in rising order.
+pub fn chains(n: usize) -> &'static [Masks] {
+    static TABLES: [OnceLock<Vec<Masks>>; MOST + 1] = [const { OnceLock::new() }; MOST + 1];
+    TABLES[n].get_or_init(|| {
+        let mut all: Vec<Masks> = cartesian(&vec![(1..1 << n).collect(); n - 1]);
+        all.retain(|masks| is_chain(n, &masks[..n - 1]));
+        all
+    })
+}
+
 impl Facet {
     /// w0 .. w(n-1) (the first n entries).
     pub fn vertices(&self) -> [Vertex; MOST] {
         let mut all = [self.lowest; MOST];
         for i in 1..self.n {
-            all[i] = above(&self.lowest, self.masks[i - 1]);
+            all[i] = above(&self.lowest, self.mask(i));
         }
         all
     }
@@ -123,7 +146,7 @@ impl Facet {
 
     /// The last mask has n - 1 ones (flat) or n ones (bent).
     pub fn is_flat(&self) -> bool {
-        self.masks[self.n - 2].count_ones() as usize == self.n - 1
+        self.mask(self.n - 1).count_ones() as usize == self.n - 1
     }
 
     /// Every simplex that has this facet, with the index of the vertex that it has besides:
@@ -210,8 +233,8 @@ impl Place {
     pub fn bytes(&self) -> Vec<u8> {
         let n = self.facet.n;
         let mut out = Vec::with_capacity(3 * n);
-        for axis in 1..=n {
-            let x = i16::try_from(self.facet.lowest[axis - 1]).expect("a 16-bit coordinate");
+        for x in &self.facet.lowest[..n] {
+            let x = i16::try_from(*x).expect("a 16-bit coordinate");
             out.extend_from_slice(&x.to_le_bytes());
         }
         out.extend_from_slice(&self.facet.masks[..n - 1]);
@@ -224,69 +247,78 @@ impl Place {
         if bytes.len() != 3 * n {
             return None;
         }
-        let mut lowest = [0i64; MOST];
-        for axis in 1..=n {
-            let at = 2 * (axis - 1);
-            lowest[axis - 1] = i16::from_le_bytes([bytes[at], bytes[at + 1]]) as i64;
+        let mut lowest = [0; MOST];
+        for (x, field) in lowest.iter_mut().zip(bytes[..2 * n].chunks_exact(2)) {
+            *x = i16::from_le_bytes([field[0], field[1]]) as i64;
         }
         let chain = &bytes[2 * n..3 * n - 1];
         let side = bytes[3 * n - 1];
         if !is_chain(n, chain) || side > 1 {
             return None;
         }
-        let mut masks = [0u8; MOST - 1];
+        let mut masks = [0; MOST - 1];
         masks[..n - 1].copy_from_slice(chain);
         Some(Place { facet: Facet { n, lowest, masks }, side })
-    }
-}
-
-/// Every chain of n - 1 masks that a facet can have (the test below looks for others).
-pub fn chains(n: usize) -> &'static [[u8; MOST - 1]] {
-    match n {
-        2 => &[[1, 0], [2, 0], [3, 0]],
-        3 => &[
-            [1, 3],
-            [1, 5],
-            [1, 7],
-            [2, 3],
-            [2, 6],
-            [2, 7],
-            [3, 7],
-            [4, 5],
-            [4, 6],
-            [4, 7],
-            [5, 7],
-            [6, 7],
-        ],
-        _ => panic!("no chains for this dimension"),
     }
 }
 
 #[cfg(test)]
 mod tests {
     use super::*;
+    use crate::limits::DIMENSIONS;
+    use std::collections::BTreeSet;
+
+    /// A vertex away from the origin.
+    fn somewhere(n: usize) -> Vertex {
+        vertex(&[5, -3, 0, 8][..n])
+    }
+
+    /// n! orders, each of all the axes.
+    #[test]
+    fn orders_are_all() {
+        for (n, count) in DIMENSIONS.into_iter().zip([2, 6, 24]) {
+            let all: BTreeSet<&Vec<usize>> = orders(n).iter().collect();
+            assert_eq!((orders(n).len(), all.len()), (count, count));
+            for order in orders(n) {
+                let mut axes = order.clone();
+                axes.sort();
+                assert_eq!(axes, (1..=n).collect::<Vec<_>>());
+            }
+        }
+    }
+
+    /// The chains are those of the facets of all simplices, and no other bytes are a chain.
+    #[test]
+    fn chains_are_all() {
+        let bytes: Vec<u8> = (0..32).chain([64, 128, 255]).collect();
+        for (n, count) in DIMENSIONS.into_iter().zip([3, 12, 60]) {
+            assert_eq!(chains(n).len(), count);
+            let corner = somewhere(n);
+            let simplices = orders(n).iter().map(|order| Simplex { corner, order });
+            let facets = simplices.flat_map(|s| (0..=n).map(move |i| s.facet(i).masks));
+            assert_eq!(facets.collect::<BTreeSet<_>>(), chains(n).iter().copied().collect());
+            let lists: Vec<Masks> = cartesian(&vec![bytes.clone(); n - 1]);
+            assert_eq!(lists.iter().filter(|list| is_chain(n, &list[..n - 1])).count(), count);
+        }
+    }
 
     /// Each facet has two simplices, one on each side, and the second is the first with one
     /// vertex replaced by the P rule, indices modulo n + 1.
     #[test]
     fn two_sides_by_the_p_rule() {
-        for n in 2..=3 {
+        for n in DIMENSIONS {
             for &masks in chains(n) {
-                let facet = Facet { n, lowest: [5, -3, 0], masks };
+                let facet = Facet { n, lowest: somewhere(n), masks };
                 assert_eq!(facet.simplices().len(), 2);
                 for side in 0..2 {
                     let place = Place { facet, side };
                     let (simplex, i) = place.simplex();
                     assert_eq!(Place::out_of(&simplex, i), place.turned());
                     let s = simplex.vertices();
-                    let before = s[(i + n) % (n + 1)];
-                    let after = s[(i + 1) % (n + 1)];
-                    let mut new = [0i64; MOST];
-                    for a in 0..MOST {
-                        new[a] = before[a] + after[a] - s[i][a];
-                    }
+                    let (before, after) = (s[(i + n) % (n + 1)], s[(i + 1) % (n + 1)]);
+                    let new: Vec<i64> = (0..MOST).map(|a| before[a] + after[a] - s[i][a]).collect();
                     let (other, k) = place.turned().simplex();
-                    assert_eq!(other.vertices()[k], new);
+                    assert_eq!(other.vertices()[k], new[..]);
                 }
             }
         }
@@ -295,13 +327,13 @@ mod tests {
     /// The three cases of the neighbour, in the words of the paper.
     #[test]
     fn neighbours_by_order() {
-        for n in 2..=3usize {
-            for &order in orders(n) {
-                let simplex = Simplex { corner: [4, 7, if n == 3 { -2 } else { 0 }], order };
+        for n in DIMENSIONS {
+            for order in orders(n) {
+                let simplex = Simplex { corner: somewhere(n), order };
                 for i in 0..=n {
                     let (next, _) = Place::out_of(&simplex, i).simplex();
                     let mut corner = simplex.corner;
-                    let mut axes = order.to_vec();
+                    let mut axes = order.clone();
                     if i == 0 {
                         corner[axes[0] - 1] += 1;
                         axes.rotate_left(1);
@@ -311,19 +343,23 @@ mod tests {
                     } else {
                         axes.swap(i - 1, i);
                     }
-                    assert_eq!((next.corner, next.order.to_vec()), (corner, axes));
+                    assert_eq!((next.corner, next.order), (corner, &axes[..]));
                 }
             }
         }
     }
 
+    /// A place read from its bytes is the place.
     #[test]
-    fn chains_are_all() {
-        let all = |n: usize| -> Vec<[u8; 2]> {
-            let pairs = (0..=255u8).flat_map(|a| (0..=255u8).map(move |b| [a, b]));
-            pairs.filter(|m| is_chain(n, &m[..n - 1]) && (n == 3 || m[1] == 0)).collect()
-        };
-        assert_eq!(chains(2), all(2));
-        assert_eq!(chains(3), all(3));
+    fn places_are_read_back() {
+        for n in DIMENSIONS {
+            for &masks in chains(n) {
+                let facet = Facet { n, lowest: somewhere(n), masks };
+                for side in 0..2 {
+                    let place = Place { facet, side };
+                    assert_eq!(Place::read(n, &place.bytes()), Some(place));
+                }
+            }
+        }
     }
 }

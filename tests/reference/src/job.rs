@@ -2,6 +2,9 @@
 
 use crate::crossed::Term;
 use crate::grid::Place;
+use crate::limits::{
+    dimension_ok, Limits, LARGEST_COEFFICIENT, LARGEST_COORDINATE, LARGEST_DEGREE,
+};
 
 /// What Open finds in the bytes of a job.
 #[derive(Clone, Debug)]
@@ -27,19 +30,67 @@ fn signed_32(bytes: &[u8], at: usize) -> i64 {
     i32::from_le_bytes([bytes[at], bytes[at + 1], bytes[at + 2], bytes[at + 3]]) as i64
 }
 
-/// The most terms of a polynomial.
-pub fn most_terms(n: usize) -> usize {
-    if n == 2 {
-        15
-    } else {
-        35
+/// Offset and length of each body; none if the contents are cut short, bodies are not adjacent,
+/// or a length is wrong for its kind.
+fn read_contents(n: usize, job: &[u8]) -> Option<Vec<(usize, usize)>> {
+    let mut ended = 4 + 4 * (n + 1);
+    if job.len() < ended {
+        return None;
     }
+    let mut bodies = Vec::new();
+    for k in 0..=n {
+        let entry = 4 + 4 * k;
+        let (offset, length) = (unsigned_16(job, entry), unsigned_16(job, entry + 2));
+        let fits_kind = if k == 0 {
+            length == 4 * n
+        } else if k < n {
+            length % 8 == 0 && length / 8 >= 1 && length / 8 <= Limits::of(n).terms
+        } else {
+            length == 3 * n
+        };
+        if offset != ended || !fits_kind {
+            return None;
+        }
+        ended = offset + length;
+        bodies.push((offset, length));
+    }
+    (ended == job.len()).then_some(bodies)
 }
 
-/// The largest size of a coefficient.
-pub const LARGEST_COEFFICIENT: i64 = 1_048_576;
-/// The largest size of a coordinate.
-pub const LARGEST_COORDINATE: i64 = 256;
+/// Per axis the low and high end; none if one is beyond its limit or low is not under high.
+fn read_box(body: &[u8]) -> Option<Vec<(i64, i64)>> {
+    let mut ends = Vec::new();
+    for bytes in body.chunks_exact(4) {
+        let (low, high) = (signed_16(bytes, 0), signed_16(bytes, 2));
+        let within = |end: i64| (-LARGEST_COORDINATE..=LARGEST_COORDINATE).contains(&end);
+        if !within(low) || !within(high) || low >= high {
+            return None;
+        }
+        ends.push((low, high));
+    }
+    Some(ends)
+}
+
+/// The terms; none if one is beyond its limits or does not rise over the one before.
+fn read_polynomial(n: usize, body: &[u8]) -> Option<Vec<Term>> {
+    let mut terms: Vec<Term> = Vec::new();
+    for bytes in body.chunks_exact(8) {
+        let coefficient = signed_32(bytes, 0);
+        let exponents = [bytes[4], bytes[5], bytes[6], bytes[7]];
+        let degree: u32 = exponents.iter().map(|&e| e as u32).sum();
+        if coefficient == 0
+            || coefficient > LARGEST_COEFFICIENT
+            || coefficient < -LARGEST_COEFFICIENT
+            || exponents[n..].iter().any(|&e| e != 0)
+            || degree > LARGEST_DEGREE
+            || terms.last().is_some_and(|before| exponents <= before.exponents)
+        {
+            return None;
+        }
+        terms.push(Term { coefficient, exponents });
+    }
+    Some(terms)
+}
 
 /// **Open.** The refusals are tested in rising number.
 pub fn open(job: &[u8]) -> Result<Job, u8> {
@@ -53,7 +104,7 @@ pub fn open(job: &[u8]) -> Result<Job, u8> {
     }
     // 3: dimension.
     let n = job[1] as usize;
-    if n != 2 && n != 3 {
+    if !dimension_ok(n) {
         return Err(3);
     }
     // 4: entry count.
@@ -61,68 +112,13 @@ pub fn open(job: &[u8]) -> Result<Job, u8> {
         return Err(4);
     }
     // 5: contents cut short, bodies not adjacent, or a length wrong for its kind.
-    let contents = 4 + 4 * (n + 1);
-    if job.len() < contents {
-        return Err(5);
-    }
-    let bodies: Vec<(usize, usize)> = (0..n + 1)
-        .map(|k| (unsigned_16(job, 4 + 4 * k), unsigned_16(job, 4 + 4 * k + 2)))
-        .collect();
-    let mut ended = contents;
-    for (k, &(offset, length)) in bodies.iter().enumerate() {
-        let fits_kind = if k == 0 {
-            length == 4 * n
-        } else if k < n {
-            length % 8 == 0 && length / 8 >= 1 && length / 8 <= most_terms(n)
-        } else {
-            length == 3 * n
-        };
-        if offset != ended || !fits_kind {
-            return Err(5);
-        }
-        ended = offset + length;
-    }
-    if ended != job.len() {
-        return Err(5);
-    }
+    let bodies = read_contents(n, job).ok_or(5)?;
     let body = |k: usize| &job[bodies[k].0..bodies[k].0 + bodies[k].1];
     // 6: box.
-    let mut ends = Vec::new();
-    for axis in 1..=n {
-        let low = signed_16(body(0), 4 * (axis - 1));
-        let high = signed_16(body(0), 4 * (axis - 1) + 2);
-        let within = |end: i64| (-LARGEST_COORDINATE..=LARGEST_COORDINATE).contains(&end);
-        if !within(low) || !within(high) || low >= high {
-            return Err(6);
-        }
-        ends.push((low, high));
-    }
+    let ends = read_box(body(0)).ok_or(6)?;
     // 7: a term or the order of terms.
-    let mut polynomials = Vec::new();
-    for k in 1..n {
-        let mut terms: Vec<Term> = Vec::new();
-        for bytes in body(k).chunks_exact(8) {
-            let coefficient = signed_32(bytes, 0);
-            let exponents = [bytes[4], bytes[5], bytes[6], bytes[7]];
-            if coefficient == 0
-                || coefficient > LARGEST_COEFFICIENT
-                || coefficient < -LARGEST_COEFFICIENT
-            {
-                return Err(7);
-            }
-            if exponents[n..].iter().any(|&e| e != 0) {
-                return Err(7);
-            }
-            if exponents.iter().map(|&e| e as u32).sum::<u32>() > 4 {
-                return Err(7);
-            }
-            if terms.last().is_some_and(|before| exponents <= before.exponents) {
-                return Err(7);
-            }
-            terms.push(Term { coefficient, exponents });
-        }
-        polynomials.push(terms);
-    }
+    let polynomials: Option<Vec<_>> = (1..n).map(|k| read_polynomial(n, body(k))).collect();
+    let polynomials = polynomials.ok_or(7)?;
     // 8: start's chain or side malformed.
     let start = Place::read(n, body(n)).ok_or(8)?;
     Ok(Job { n, bodies, ends, polynomials, start })

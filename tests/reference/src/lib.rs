@@ -2,16 +2,20 @@
 //! in its order and words. It shares no code with the proved library and is no faster than
 //! the definitions allow: the differential tests compare the library with it.
 //!
-//! All sums are taken in 128 bits, determinants by Leibniz' formula, neighbours and sides by
-//! searching the simplices around a facet for those that have it.
+//! It is over any dimension up to `limits::MOST`: what differs from one to another stands in the
+//! table of `limits`. All sums are taken in 128 bits, determinants by Laplace's expansion,
+//! neighbours and sides by searching the simplices around a facet for those that have it.
 
 pub mod build;
+pub mod cartesian;
 pub mod crossed;
 pub mod curve;
 pub mod generate;
 pub mod grid;
 pub mod job;
+pub mod limits;
 pub mod listing;
 pub mod marked;
 pub mod operations;
 pub mod product;
+pub mod tally;

@@ -1,7 +1,7 @@
 //! "Marked cases" A to J and the wrong turns, as checks of any product.
 
 use crate::build::{case_a, case_c, place, term, Parts};
-use crate::grid::Place;
+use crate::grid::{vertex, Place};
 use crate::operations::{Move, Step, Verdict};
 use crate::product::Product;
 
@@ -16,13 +16,13 @@ pub const CASE_A: [u8; 54] = [
 ];
 
 /// Lowest vertex, mask and point of case A's places, in the order printed.
-pub const CASE_A_PLACES: [([i64; 3], u8, [i64; 3]); 6] = [
-    ([0, 0, 0], 1, [512, 0, 0]),
-    ([0, 0, 0], 3, [256, 256, 0]),
-    ([0, 0, 0], 2, [0, 512, 0]),
-    ([-1, 0, 0], 1, [-512, 0, 0]),
-    ([-1, -1, 0], 3, [-256, -256, 0]),
-    ([0, -1, 0], 2, [0, -512, 0]),
+pub const CASE_A_PLACES: [([i64; 2], u8, [i64; 2]); 6] = [
+    ([0, 0], 1, [512, 0]),
+    ([0, 0], 3, [256, 256]),
+    ([0, 0], 2, [0, 512]),
+    ([-1, 0], 1, [-512, 0]),
+    ([-1, -1], 3, [-256, -256]),
+    ([0, -1], 2, [0, -512]),
 ];
 
 /// What the listing prints for case A.
@@ -63,9 +63,9 @@ pub fn cases(p: &dyn Product) {
     assert_eq!((verdict, places.len()), (Verdict::Loop, 6));
     let mut written = Vec::new();
     for (found, (lowest, mask, steps)) in places.iter().zip(CASE_A_PLACES) {
-        assert_eq!(found.facet, place(2, lowest, [mask, 0], 0).facet);
+        assert_eq!(found.facet, place(&lowest, &[mask], 0).facet);
         assert_eq!(p.judge(&a, &found.bytes()), Ok(true));
-        assert_eq!(p.point(&a, &found.bytes()), Ok(steps));
+        assert_eq!(p.point(&a, &found.bytes()), Ok(vertex(&steps)));
         written.extend(found.bytes());
     }
     assert_eq!(p.pen(&a, &written, true, 0), Ok(Move::Lift([0.5, 0.0, 0.0])));
@@ -81,16 +81,16 @@ pub fn cases(p: &dyn Product) {
     // C: four places, then the edge.
     let c = case_c();
     let expected = [
-        (place(3, [0, 0, 0], [1, 3], 0), [0, 0, 0]),
-        (place(3, [0, 0, 0], [1, 7], 1), [0, 0, 0]),
-        (place(3, [0, 0, 0], [5, 7], 1), [0, 0, 0]),
-        (place(3, [0, 0, 1], [1, 3], 0), [0, 0, 1024]),
+        (place(&[0, 0, 0], &[1, 3], 0), [0, 0, 0]),
+        (place(&[0, 0, 0], &[1, 7], 1), [0, 0, 0]),
+        (place(&[0, 0, 0], &[5, 7], 1), [0, 0, 0]),
+        (place(&[0, 0, 1], &[1, 3], 0), [0, 0, 1024]),
     ];
     let (verdict, places) = traced(p, &c.bytes(), 3, 9);
     assert_eq!((verdict, places.len()), (Verdict::Edge, 4));
     for (k, (wanted, steps)) in expected.iter().enumerate() {
         assert_eq!(places[k], *wanted);
-        assert_eq!(p.point(&c.bytes(), &wanted.bytes()), Ok(*steps));
+        assert_eq!(p.point(&c.bytes(), &wanted.bytes()), Ok(vertex(steps)));
         let next = expected.get(k + 1).map_or(Step::Edge, |(place, _)| Step::Next(*place));
         assert_eq!(p.step(&c.bytes(), &wanted.bytes()), Ok(next));
     }
@@ -98,22 +98,22 @@ pub fn cases(p: &dyn Product) {
     let d = Parts { start: c.start.turned(), ..c.clone() };
     assert_eq!(traced(p, &d.bytes(), 3, 9), (Verdict::Edge, vec![d.start]));
     // E: C's facet with masks 2 3.
-    let e = place(3, [0, 0, 0], [2, 3], 0);
+    let e = place(&[0, 0, 0], &[2, 3], 0);
     assert_eq!(p.judge(&c.bytes(), &e.bytes()), Ok(false));
     assert_eq!(p.point(&c.bytes(), &e.bytes()), Err(11));
     // F, G, H: values 0 and 1, 0 and -1, 0 and 0.
-    let along_x = place(2, [0, 0, 0], [1, 0], 0).bytes();
+    let along_x = place(&[0, 0], &[1], 0).bytes();
     let line = |terms| Parts { polynomials: vec![terms], ..case_a() }.bytes();
-    assert_eq!(p.judge(&line(vec![term(1, 1, 0, 0)]), &along_x), Ok(true));
-    assert_eq!(p.judge(&line(vec![term(-1, 1, 0, 0)]), &along_x), Ok(false));
-    assert_eq!(p.judge(&line(vec![term(1, 0, 1, 0)]), &along_x), Ok(false));
+    assert_eq!(p.judge(&line(vec![term(1, &[1])]), &along_x), Ok(true));
+    assert_eq!(p.judge(&line(vec![term(-1, &[1])]), &along_x), Ok(false));
+    assert_eq!(p.judge(&line(vec![term(1, &[0, 1])]), &along_x), Ok(false));
     // I: 1,048,576 x^2 at 16 and at 17.
     let i = Parts {
         ends: vec![(0, 17), (0, 1)],
-        polynomials: vec![vec![term(1_048_576, 2, 0, 0)]],
+        polynomials: vec![vec![term(1_048_576, &[2])]],
         ..case_a()
     };
-    let ending = |x: i64| place(2, [x - 1, 0, 0], [1, 0], 0).bytes();
+    let ending = |x: i64| place(&[x - 1, 0], &[1], 0).bytes();
     assert_eq!(p.judge(&i.bytes(), &ending(16)), Ok(false));
     assert_eq!(p.judge(&i.bytes(), &ending(17)), Err(10));
     // J: low end equal to high.
@@ -124,10 +124,10 @@ pub fn cases(p: &dyn Product) {
 /// The five wrong turns.
 pub fn wrong_turns(p: &dyn Product) {
     // A zero counted as both high and low: a triangle of values 0, 1, -1 has two crossed facets.
-    let zero = Parts { polynomials: vec![vec![term(-1, 0, 1, 0), term(1, 1, 0, 0)]], ..case_a() };
-    let facets = [([0, 0, 0], 1), ([0, 0, 0], 3), ([1, 0, 0], 2)];
+    let zero = Parts { polynomials: vec![vec![term(-1, &[0, 1]), term(1, &[1])]], ..case_a() };
+    let facets = [([0, 0], 1), ([0, 0], 3), ([1, 0], 2)];
     let crossed = facets.map(|(lowest, mask)| {
-        p.judge(&zero.bytes(), &place(2, lowest, [mask, 0], 0).bytes()).expect("judged")
+        p.judge(&zero.bytes(), &place(&lowest, &[mask], 0).bytes()).expect("judged")
     });
     assert_eq!(crossed, [true, false, true]);
     // Judging by power 0 alone: in C each of these facets has weights 0, 0 and 1 at the
@@ -136,7 +136,7 @@ pub fn wrong_turns(p: &dyn Product) {
     for (masks, is_crossed) in
         [([1, 3], true), ([1, 7], true), ([5, 7], true), ([2, 3], false), ([2, 7], false)]
     {
-        let facet = place(3, [0, 0, 0], masks, 0);
+        let facet = place(&[0, 0, 0], &masks, 0);
         assert_eq!(p.judge(&c.bytes(), &facet.bytes()), Ok(is_crossed), "{masks:?}");
     }
     // The R rule at the two ends of the order replaces s0 by 2 s1 - s0, another vertex than the
@@ -144,12 +144,11 @@ pub fn wrong_turns(p: &dyn Product) {
     let taller = Parts { ends: vec![(0, 1), (0, 1), (0, 2)], ..c.clone() };
     let (verdict, places) = traced(p, &taller.bytes(), 3, 20);
     assert_eq!((verdict, places.len()), (Verdict::Edge, 7));
-    assert_eq!(places[6], place(3, [0, 0, 2], [1, 3], 0));
+    assert_eq!(places[6], place(&[0, 0, 2], &[1, 3], 0));
     // Rounding -0.3 steps: 10,240 x + 3 is zero at x = -0.3 / 1024.
-    let slight =
-        Parts { polynomials: vec![vec![term(3, 0, 0, 0), term(10_240, 1, 0, 0)]], ..case_a() };
-    let here = place(2, [-1, 0, 0], [1, 0], 0);
-    assert_eq!(p.point(&slight.bytes(), &here.bytes()), Ok([-1, 0, 0]));
+    let slight = Parts { polynomials: vec![vec![term(3, &[]), term(10_240, &[1])]], ..case_a() };
+    let here = place(&[-1, 0], &[1], 0);
+    assert_eq!(p.point(&slight.bytes(), &here.bytes()), Ok(vertex(&[-1])));
     // A full buffer when the next facet is the start: case B with space for 6.
     assert_eq!(traced(p, &case_a().bytes(), 2, 6).0, Verdict::Loop);
 }

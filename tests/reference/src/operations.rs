@@ -1,9 +1,10 @@
 //! "Operations and what they turn down". Each opens the job first; its own refusals are
 //! tested in the order written. A refusal is its number alone and no buffer is touched.
 
-use crate::crossed::{self, column, is_crossed, is_readable, Column};
-use crate::grid::{Facet, Place, Simplex, Vertex, MOST};
+use crate::crossed::{self, column, is_crossed, Column};
+use crate::grid::{Facet, Place, Simplex, Vertex};
 use crate::job::{open, Job};
+use crate::limits::{Limits, MOST};
 
 /// **Body.** The part of the job that holds the body, as offset and length.
 pub fn body(job: &[u8], index: u64) -> Result<(usize, usize), u8> {
@@ -18,29 +19,42 @@ fn in_box(job: &Job, v: &Vertex) -> bool {
     job.ends.iter().enumerate().all(|(k, &(low, high))| low <= v[k] && v[k] <= high)
 }
 
-fn column_is_readable(n: usize, column: &Column) -> bool {
-    column[1..n].iter().all(|&value| is_readable(value))
+/// Why some vertices have no columns.
+enum Unfit {
+    /// A vertex lies outside the box.
+    Outside,
+    /// All lie in the box and a value is not readable.
+    Unreadable,
 }
 
-/// 9 a vertex outside the box; 10 a vertex value not readable; else the columns of the facet.
-fn columns(job: &Job, facet: &Facet) -> Result<[Column; MOST], u8> {
-    let vertices = facet.vertices();
-    if !vertices[..job.n].iter().all(|v| in_box(job, v)) {
-        return Err(9);
+/// The columns of up to n + 1 vertices, in their order.
+fn columns(job: &Job, vertices: &[Vertex]) -> Result<[Column; MOST + 1], Unfit> {
+    if !vertices.iter().all(|v| in_box(job, v)) {
+        return Err(Unfit::Outside);
     }
-    let mut columns = [[0i128; MOST]; MOST];
-    for i in 0..job.n {
-        columns[i] = column(&job.polynomials, &vertices[i]);
+    let mut columns = [[0; MOST]; MOST + 1];
+    for (here, v) in columns.iter_mut().zip(vertices) {
+        *here = column(&job.polynomials, v);
     }
-    if !columns[..job.n].iter().all(|c| column_is_readable(job.n, c)) {
-        return Err(10);
+    let limits = Limits::of(job.n);
+    let values = columns[..vertices.len()].iter().flat_map(|c| &c[1..job.n]);
+    if !values.into_iter().all(|&value| limits.is_readable(value)) {
+        return Err(Unfit::Unreadable);
     }
     Ok(columns)
 }
 
+/// 9 a vertex outside the box; 10 a vertex value not readable; else the columns of the facet.
+fn facet_columns(job: &Job, facet: &Facet) -> Result<[Column; MOST + 1], u8> {
+    columns(job, &facet.vertices()[..job.n]).map_err(|unfit| match unfit {
+        Unfit::Outside => 9,
+        Unfit::Unreadable => 10,
+    })
+}
+
 /// 9, 10, then 11 not crossed.
-fn crossed_columns(job: &Job, facet: &Facet) -> Result<[Column; MOST], u8> {
-    let columns = columns(job, facet)?;
+fn crossed_columns(job: &Job, facet: &Facet) -> Result<[Column; MOST + 1], u8> {
+    let columns = facet_columns(job, facet)?;
     if !is_crossed(&columns[..job.n]) {
         return Err(11);
     }
@@ -56,17 +70,17 @@ pub fn facet_is_crossed(job: &Job, facet: &Facet) -> bool {
 pub fn judge(job: &[u8], place: &[u8]) -> Result<bool, u8> {
     let job = open(job)?;
     let place = Place::read(job.n, place).ok_or(13)?;
-    let columns = columns(&job, &place.facet)?;
+    let columns = facet_columns(&job, &place.facet)?;
     Ok(is_crossed(&columns[..job.n]))
 }
 
-fn point_of(job: &Job, facet: &Facet) -> Result<[i64; MOST], u8> {
+fn point_of(job: &Job, facet: &Facet) -> Result<Vertex, u8> {
     let columns = crossed_columns(job, facet)?;
     Ok(crossed::point(facet, &columns[..job.n]))
 }
 
 /// **Point.** 13, 9, 10, then 11 not crossed; else the coordinates in steps of 1/1024.
-pub fn point(job: &[u8], place: &[u8]) -> Result<[i64; MOST], u8> {
+pub fn point(job: &[u8], place: &[u8]) -> Result<Vertex, u8> {
     let job = open(job)?;
     let place = Place::read(job.n, place).ok_or(13)?;
     point_of(&job, &place.facet)
@@ -90,25 +104,20 @@ pub enum Look {
 /// Looks at a simplex.
 pub fn look(job: &Job, simplex: &Simplex) -> Look {
     let n = job.n;
-    let vertices = simplex.vertices();
-    if !vertices[..=n].iter().all(|v| in_box(job, v)) {
-        return Look::Outside;
-    }
-    let mut columns = [[0i128; MOST]; MOST + 1];
-    for i in 0..=n {
-        columns[i] = column(&job.polynomials, &vertices[i]);
-    }
-    if !columns[..=n].iter().all(|c| column_is_readable(n, c)) {
-        return Look::Unreadable;
-    }
-    let is_crossed_without = |i: usize| {
-        let mut facet = [[0i128; MOST]; MOST];
-        for k in 0..n {
-            facet[k] = columns[if k < i { k } else { k + 1 }];
+    match columns(job, &simplex.vertices()[..=n]) {
+        Err(Unfit::Outside) => Look::Outside,
+        Err(Unfit::Unreadable) => Look::Unreadable,
+        Ok(columns) => {
+            let is_crossed_without = |i: usize| {
+                let mut facet = [[0; MOST]; MOST];
+                for k in 0..n {
+                    facet[k] = columns[if k < i { k } else { k + 1 }];
+                }
+                is_crossed(&facet[..n])
+            };
+            Look::Readable((0..=n).filter(|&i| is_crossed_without(i)).collect())
         }
-        is_crossed(&facet[..n])
-    };
-    Look::Readable((0..=n).filter(|&i| is_crossed_without(i)).collect())
+    }
 }
 
 /// The simplex on the place's side: edge, limit, or the place of its other crossed facet,
@@ -134,7 +143,7 @@ pub fn step(job: &[u8], place: &[u8]) -> Result<Step, u8> {
     Ok(onward(&job, &place))
 }
 
-#[derive(Clone, Copy, PartialEq, Eq, Hash, Debug)]
+#[derive(Clone, Copy, PartialEq, Eq, PartialOrd, Ord, Debug)]
 pub enum Verdict {
     Loop,
     Edge,
@@ -219,6 +228,7 @@ pub fn pen(job: &[u8], places: &[u8], closed: bool, k: u64) -> Result<Move, u8> 
     let at = size * k as usize;
     let place = Place::read(job.n, &places[at..at + size]).ok_or(13)?;
     let steps = point_of(&job, &place.facet)?;
-    let millimetres = [0, 1, 2].map(|axis: usize| steps[axis] as f64 / 1024.0);
+    // Axes 1 to 3: the third is 0 for n = 2.
+    let millimetres = [1, 2, 3].map(|axis: usize| steps[axis - 1] as f64 / 1024.0);
     Ok(if k == 0 { Move::Lift(millimetres) } else { Move::Draw(millimetres) })
 }

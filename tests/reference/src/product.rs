@@ -1,6 +1,7 @@
 //! The operations as one table of functions, so that a test can be run on the reference and
 //! on the proved library alike.
 
+use crate::grid::Vertex;
 use crate::job;
 use crate::operations::{self, Move, Step, Verdict};
 
@@ -11,7 +12,8 @@ pub trait Product {
     /// Offset and length of the part of the job that holds the body.
     fn body(&self, job: &[u8], index: u64) -> Result<(usize, usize), u8>;
     fn judge(&self, job: &[u8], place: &[u8]) -> Result<bool, u8>;
-    fn point(&self, job: &[u8], place: &[u8]) -> Result<[i64; 3], u8>;
+    /// Steps by axis; 0 above axis n.
+    fn point(&self, job: &[u8], place: &[u8]) -> Result<Vertex, u8>;
     fn step(&self, job: &[u8], place: &[u8]) -> Result<Step, u8>;
     fn trace(&self, job: &[u8], buffer: &mut [u8]) -> Result<(Verdict, usize), u8>;
     fn pen(&self, job: &[u8], places: &[u8], closed: bool, k: u64) -> Result<Move, u8>;
@@ -31,7 +33,7 @@ impl Product for Reference {
     fn judge(&self, job: &[u8], place: &[u8]) -> Result<bool, u8> {
         operations::judge(job, place)
     }
-    fn point(&self, job: &[u8], place: &[u8]) -> Result<[i64; 3], u8> {
+    fn point(&self, job: &[u8], place: &[u8]) -> Result<Vertex, u8> {
         operations::point(job, place)
     }
     fn step(&self, job: &[u8], place: &[u8]) -> Result<Step, u8> {

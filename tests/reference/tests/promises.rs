@@ -43,7 +43,9 @@ fn every_citation_is_there() {
                 let edit = format!("crates/{cited}.edit");
                 assert!(root().join(&edit).is_file(), "no edit {edit}");
                 edits += 1;
-            } else if cited.contains('/') && (cited.ends_with(".antt") || cited.ends_with(".rt") || cited.ends_with(".rs")) {
+            } else if cited.contains('/')
+                && (cited.ends_with(".antt") || cited.ends_with(".rt") || cited.ends_with(".rs"))
+            {
                 let path = file(cited).unwrap_or_else(|| panic!("no file {cited}"));
                 text = fs::read_to_string(path).expect("a file of the repository");
                 files += 1;
@@ -54,7 +56,10 @@ fn every_citation_is_there() {
             }
         }
     }
-    assert!(files > 100 && edits > 50 && names > 200, "{files} files, {edits} edits, {names} names");
+    assert!(
+        files > 100 && edits > 50 && names > 200,
+        "{files} files, {edits} edits, {names} names"
+    );
 }
 
 #[test]

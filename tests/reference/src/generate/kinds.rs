@@ -1,0 +1,419 @@
+//! Jobs that open, by kind.
+
+use super::random::Random;
+use crate::build::{exponents, gathered, power_of, product, term, Parts};
+use crate::crossed::{value, Term};
+use crate::grid::{chains, Facet, Place, Vertex};
+use crate::limits::{accepted, Limits, LARGEST_COEFFICIENT, LARGEST_COORDINATE, MOST};
+use crate::named;
+use crate::operations::facet_is_crossed;
+
+named! {
+    /// The kinds of jobs that open.
+    Kind {
+        /// A small box and small coefficients.
+        Small: 2,
+        /// Products of linear forms: 0 at many grid points.
+        ManyZeros: 3,
+        /// Few large terms: values below, at and above the readable limit.
+        AroundReadableLimit: 1,
+        /// A curve along axis 1 out of the readable values: the trace ends at the limit.
+        IntoReadableLimit: 2,
+        /// A box up to the largest.
+        LargeBox: 2,
+        /// Each term that a body may hold, with coefficients up to the largest.
+        AllTerms: 1,
+        /// An ellipse, or an ellipsoid cut by other surfaces: mostly closed.
+        Closed: 2,
+    }
+}
+
+/// How large jobs are, so that a search for a start and a trace take not much longer in one
+/// dimension than in another.
+struct Scale {
+    n: usize,
+    /// Reach and longest side of a small box.
+    small: i64,
+    /// The most linear forms in a product.
+    forms: u64,
+    /// Reach and longest side of a box around the readable limit.
+    around_limit: (i64, i64),
+    /// The reach of a large box is one of these.
+    large: [i64; 3],
+    /// The reach of a box for all terms.
+    all_terms: i64,
+    /// The largest radius of a closed curve.
+    radius: i64,
+    /// How many facets are tried for a crossed start.
+    tries: usize,
+}
+
+const SCALES: [Scale; 3] = [
+    Scale {
+        n: 2,
+        small: 8,
+        forms: 4,
+        around_limit: (18, 20),
+        large: [12, 40, LARGEST_COORDINATE],
+        all_terms: 6,
+        radius: 12,
+        tries: 30,
+    },
+    Scale {
+        n: 3,
+        small: 4,
+        forms: 2,
+        around_limit: (17, 5),
+        large: [8, 20, LARGEST_COORDINATE],
+        all_terms: 3,
+        radius: 5,
+        tries: 120,
+    },
+    Scale {
+        n: 4,
+        small: 2,
+        forms: 2,
+        around_limit: (17, 2),
+        large: [4, 8, LARGEST_COORDINATE],
+        all_terms: 2,
+        radius: 2,
+        tries: 480,
+    },
+];
+
+fn scale(n: usize) -> &'static Scale {
+    SCALES.iter().find(|row| row.n == n).expect("a dimension of the table")
+}
+
+/// The box: per axis the low and high end.
+type Ends = Vec<(i64, i64)>;
+
+/// A box within `reach` of the origin, no side longer than `longest`.
+fn random_box(r: &mut Random, n: usize, reach: i64, longest: i64) -> Ends {
+    (0..n)
+        .map(|_| {
+            let low = r.between(-reach, reach - 1);
+            (low, (low + r.between(1, longest)).min(reach))
+        })
+        .collect()
+}
+
+/// A vertex of the box.
+pub fn vertex_in(r: &mut Random, ends: &[(i64, i64)]) -> Vertex {
+    let mut v = [0; MOST];
+    for (x, &(low, high)) in v.iter_mut().zip(ends) {
+        *x = r.between(low, high);
+    }
+    v
+}
+
+/// The polynomial, or one of the axes where it has no term.
+fn nonempty(r: &mut Random, n: usize, terms: Vec<Term>) -> Vec<Term> {
+    if !terms.is_empty() {
+        return terms;
+    }
+    let exponents = power_of(1 + r.index(n), 1);
+    vec![Term { coefficient: r.pick(&[1, -1]), exponents }]
+}
+
+/// A polynomial of up to `most` terms of degree up to `degree`, coefficients up to `size`.
+fn polynomial(r: &mut Random, n: usize, most: u64, degree: u8, size: i64) -> Vec<Term> {
+    let low_degree: Vec<[u8; MOST]> =
+        exponents(n).iter().copied().filter(|e| e.iter().sum::<u8>() <= degree).collect();
+    let count = 1 + r.below(most);
+    let terms: Vec<Term> = (0..count)
+        .map(|_| Term { coefficient: r.between(-size, size), exponents: r.pick(&low_degree) })
+        .collect();
+    nonempty(r, n, gathered(&terms))
+}
+
+/// A product of up to `most` linear forms with small coefficients: 0 at many grid points.
+fn linear_product(r: &mut Random, n: usize, most: u64) -> Vec<Term> {
+    let mut all = vec![term(r.pick(&[1, -1, 1, 2]), &[])];
+    for _ in 0..1 + r.below(most) {
+        let mut form = vec![term(r.between(-2, 2), &[])];
+        for axis in 1..=n {
+            form.push(Term { coefficient: r.between(-1, 1), exponents: power_of(axis, 1) });
+        }
+        let form = gathered(&form);
+        if !form.is_empty() {
+            all = product(&all, &form);
+        }
+    }
+    nonempty(r, n, all)
+}
+
+/// Moves the polynomial's zero set close to a vertex, by its constant term, where the
+/// coefficients stay within their limit.
+fn through(r: &mut Random, terms: &[Term], at: &Vertex) -> Vec<Term> {
+    let wanted = r.pick(&[0, 0, 1, -1, 2, -3]);
+    let constant = wanted - value(terms, at);
+    if constant.abs() > 1 << 30 {
+        return terms.to_vec();
+    }
+    let moved = gathered(&[terms, &[term(constant as i64, &[])]].concat());
+    if moved.is_empty() || moved.iter().any(|t| t.coefficient.abs() > LARGEST_COEFFICIENT) {
+        terms.to_vec()
+    } else {
+        moved
+    }
+}
+
+/// The coefficient c for which c x^2 is readable up to x = 16.
+fn readable_to_16(n: usize) -> i64 {
+    (Limits::of(n).readable / 256) as i64
+}
+
+fn around_readable_limit(r: &mut Random, n: usize) -> (Ends, Vec<Vec<Term>>) {
+    let (reach, longest) = scale(n).around_limit;
+    let mut ends = random_box(r, n, reach, longest);
+    if r.once_in(2) {
+        ends[0] = (r.between(10, 16), r.between(17, 20));
+    }
+    let size = readable_to_16(n);
+    let sizes = [size, -size, size - 1, size / 2, size / 16, 3, -1, 1];
+    let large_terms = |r: &mut Random| {
+        let mut terms = polynomial(r, n, 4, 2, 1);
+        for t in &mut terms {
+            t.coefficient = r.pick(&sizes);
+        }
+        terms
+    };
+    (ends, (1..n).map(|_| large_terms(r)).collect())
+}
+
+/// Polynomial k is c x^2 times axis k + 1, about: it is 0 along axis 1, and beside it readable
+/// up to x = 16. All but the first may be a product of linear forms instead.
+fn into_readable_limit(r: &mut Random, n: usize) -> (Ends, Vec<Vec<Term>>) {
+    let mut ends = vec![(r.between(-3, 14), r.between(15, 20))];
+    ends.extend((1..n).map(|_| (r.between(-2, -1), r.between(1, 3))));
+    let full = readable_to_16(n);
+    let size = r.pick(&[full, -full, full - 1, full / 2, full / 4]);
+    let mut polynomials = Vec::new();
+    for axis in 2..=n {
+        let mut exponents = power_of(axis, 1);
+        exponents[0] = 2;
+        let mut terms = vec![Term { coefficient: size, exponents }, term(r.between(-9, 9), &[])];
+        if axis == 2 {
+            terms.push(term(r.between(-3, 3), &[1, 1]));
+        } else if !r.once_in(3) {
+            terms = linear_product(r, n, 2);
+        }
+        polynomials.push(gathered(&terms));
+    }
+    (ends, polynomials)
+}
+
+fn all_terms(r: &mut Random, n: usize) -> (Ends, Vec<Vec<Term>>) {
+    let ends = random_box(r, n, scale(n).all_terms, 6);
+    let size = r.pick(&[2, 1000, LARGEST_COEFFICIENT]);
+    let with_largest = r.once_in(2);
+    let full = |r: &mut Random| {
+        let coefficient = |r: &mut Random| {
+            let largest = with_largest && r.once_in(8);
+            let c = if largest { LARGEST_COEFFICIENT } else { r.between(1, size) };
+            c * r.pick(&[1, -1])
+        };
+        let terms = exponents(n).iter();
+        terms.map(|&exponents| Term { coefficient: coefficient(r), exponents }).collect()
+    };
+    (ends, (1..n).map(|_| full(r)).collect())
+}
+
+fn closed(r: &mut Random, n: usize) -> (Ends, Vec<Vec<Term>>) {
+    let radius = r.between(1, scale(n).radius);
+    let reach = radius + r.between(0, 1);
+    let mut round = vec![term(-radius * radius + r.between(-1, 1), &[])];
+    for axis in 1..=n {
+        let coefficient = if axis <= 2 { r.between(1, 3) } else { 1 };
+        round.push(Term { coefficient, exponents: power_of(axis, 2) });
+    }
+    let mut polynomials = vec![gathered(&round)];
+    for _ in 2..n {
+        let cut = r.once_in(2);
+        polynomials.push(if cut { linear_product(r, n, 1) } else { polynomial(r, n, 4, 2, 2) });
+    }
+    (vec![(-reach, reach); n], polynomials)
+}
+
+/// Box and polynomials of a kind.
+fn surfaces(r: &mut Random, n: usize, kind: Kind) -> (Ends, Vec<Vec<Term>>) {
+    let s = scale(n);
+    match kind {
+        Kind::Small => {
+            let degree = r.pick(&[1, 2, 2, 3, 4]);
+            let ends = random_box(r, n, s.small, s.small);
+            (ends, (1..n).map(|_| polynomial(r, n, 5, degree, 3)).collect())
+        }
+        Kind::ManyZeros => {
+            let ends = random_box(r, n, s.small, s.small);
+            (ends, (1..n).map(|_| linear_product(r, n, s.forms)).collect())
+        }
+        Kind::AroundReadableLimit => around_readable_limit(r, n),
+        Kind::IntoReadableLimit => into_readable_limit(r, n),
+        Kind::LargeBox => {
+            let reach = r.pick(&s.large);
+            let ends = random_box(r, n, reach, 2 * reach);
+            let degree = r.pick(&[1, 2, 3]);
+            (ends, (1..n).map(|_| polynomial(r, n, 6, degree, 9)).collect())
+        }
+        Kind::AllTerms => all_terms(r, n),
+        Kind::Closed => closed(r, n),
+    }
+}
+
+/// The facet moved so that its vertices lie in the box, as far as the box allows.
+fn into_box(facet: Facet, ends: &[(i64, i64)]) -> Facet {
+    let mut moved = facet;
+    for (k, &(low, high)) in ends.iter().enumerate() {
+        let reach = facet.mask(facet.n - 1) >> k & 1;
+        moved.lowest[k] = facet.lowest[k].clamp(low, high - reach as i64);
+    }
+    moved
+}
+
+/// A facet whose lowest vertex is at most 1 away from a vertex.
+pub fn facet_near(r: &mut Random, n: usize, near: &Vertex) -> Facet {
+    let mut lowest = *near;
+    for x in &mut lowest[..n] {
+        *x += r.between(-1, 1);
+    }
+    Facet { n, lowest, masks: r.pick(chains(n)) }
+}
+
+/// Looks for a crossed facet near a vertex and then anywhere in the box, and makes it the
+/// start; keeps any facet if none is found soon.
+fn choose_start(r: &mut Random, parts: &mut Parts, near: &Vertex) {
+    let job = parts.opened();
+    let tries = scale(parts.n).tries;
+    for k in 0..tries {
+        let vertex = if k < tries / 2 { *near } else { vertex_in(r, &parts.ends) };
+        let facet = into_box(facet_near(r, parts.n, &vertex), &parts.ends);
+        parts.start = Place { facet, side: r.below(2) as u8 };
+        if facet_is_crossed(&job, &facet) {
+            return;
+        }
+    }
+}
+
+/// A job of a kind; its start is searched for or left as it comes.
+pub fn valid_of(r: &mut Random, n: usize, kind: Kind, search: bool) -> Parts {
+    let (ends, mut polynomials) = surfaces(r, n, kind);
+    let near = vertex_in(r, &ends);
+    // These two are where they are meant to be.
+    let keeps = matches!(kind, Kind::IntoReadableLimit | Kind::Closed);
+    if !keeps && !r.once_in(4) {
+        for p in &mut polynomials {
+            *p = through(r, p, &near);
+        }
+    }
+    let facet = Facet { n, lowest: near, masks: r.pick(chains(n)) };
+    let start = Place { facet, side: r.below(2) as u8 };
+    let mut parts = Parts { n, ends, polynomials, start };
+    if search && !r.once_in(12) {
+        choose_start(r, &mut parts, &near);
+    }
+    parts
+}
+
+/// A job of any kind and any dimension that Open accepts.
+pub fn valid_of_any(r: &mut Random, search: bool) -> (Kind, Parts) {
+    let kind = r.named();
+    let n = r.pick(&accepted());
+    (kind, valid_of(r, n, kind, search))
+}
+
+/// A job that opens, mostly with a crossed start.
+pub fn valid(r: &mut Random) -> (Kind, Parts) {
+    loop {
+        let (kind, parts) = valid_of_any(r, true);
+        if facet_is_crossed(&parts.opened(), &parts.start.facet) || r.once_in(3) {
+            return (kind, parts);
+        }
+    }
+}
+
+/// A job of dimension n in a box small enough to be looked at whole.
+pub fn valid_small(r: &mut Random, n: usize) -> (Kind, Parts) {
+    loop {
+        let kind = r.named();
+        if !matches!(kind, Kind::LargeBox | Kind::AllTerms) {
+            return (kind, valid_of(r, n, kind, true));
+        }
+    }
+}
+
+#[cfg(test)]
+mod tests {
+    use super::*;
+    use crate::job::open;
+    use crate::limits::DIMENSIONS;
+    use crate::operations::{trace_places, Verdict};
+    use crate::tally::{Named, Tally};
+
+    /// What Trace answers, without the places.
+    fn traced(parts: &Parts) -> Result<Verdict, u8> {
+        trace_places(&parts.opened(), 300).map(|(verdict, _)| verdict)
+    }
+
+    /// The limits that Open tests, in a dimension that it need not accept.
+    fn assert_within_limits(parts: &Parts) {
+        let n = parts.n;
+        assert_eq!((parts.ends.len(), parts.polynomials.len()), (n, n - 1));
+        for p in &parts.polynomials {
+            assert!((1..=Limits::of(n).terms).contains(&p.len()));
+            assert!(p.windows(2).all(|t| t[0].exponents < t[1].exponents));
+            for t in p {
+                assert!(exponents(n).contains(&t.exponents));
+                assert!(t.coefficient != 0 && t.coefficient.abs() <= LARGEST_COEFFICIENT);
+            }
+        }
+    }
+
+    /// Valid jobs open, most of their starts are crossed, and every answer comes up.
+    #[test]
+    fn valid_jobs_are_worth_tracing() {
+        let mut r = Random::new(1);
+        let (mut kinds, mut answers) = (Tally::default(), Tally::default());
+        let mut refused = 0;
+        let count = 20_000;
+        for _ in 0..count {
+            let (kind, parts) = valid(&mut r);
+            open(&parts.bytes()).expect("a valid job");
+            let answer = traced(&parts);
+            kinds.count(kind);
+            answers.count(answer);
+            refused += answer.is_err() as u32;
+        }
+        kinds.assert_all();
+        let verdicts = [Verdict::Loop, Verdict::Edge, Verdict::Limit, Verdict::Full];
+        answers.assert_met(&[&verdicts.map(Ok)[..], &[Err(9), Err(10), Err(11)]].concat());
+        assert!(refused < count / 2);
+    }
+
+    /// Each kind keeps the limits of a job in each dimension, and reaches what it is for.
+    #[test]
+    fn each_kind_reaches_its_aim() {
+        for n in DIMENSIONS {
+            let mut r = Random::new(2);
+            for kind in Kind::all() {
+                let mut met = Tally::default();
+                for _ in 0..300 {
+                    let parts = valid_of(&mut r, n, kind, true);
+                    assert_within_limits(&parts);
+                    met.count(traced(&parts));
+                }
+                println!("{kind:?} in dimension {n}");
+                met.assert_includes(match kind {
+                    Kind::Small => &[Ok(Verdict::Edge)],
+                    Kind::ManyZeros => &[Ok(Verdict::Edge)],
+                    Kind::AroundReadableLimit => &[Err(10), Ok(Verdict::Edge)],
+                    Kind::IntoReadableLimit => &[Ok(Verdict::Limit)],
+                    Kind::LargeBox => &[Ok(Verdict::Full)],
+                    Kind::AllTerms => &[Ok(Verdict::Edge)],
+                    Kind::Closed => &[Ok(Verdict::Loop)],
+                });
+            }
+        }
+    }
+}

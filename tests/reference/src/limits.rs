@@ -1,0 +1,53 @@
+//! What depends on the dimension, in one table. Everything else of the reference is over n.
+
+/// The arrays of the reference have room for this many axes.
+pub const MOST: usize = 4;
+
+/// The limits of a dimension.
+pub struct Limits {
+    pub n: usize,
+    /// Whether Open accepts the dimension.
+    pub accepted: bool,
+    /// The most terms of a polynomial.
+    pub terms: usize,
+    /// A value is readable from minus this to this.
+    pub readable: i128,
+}
+
+/// A row for each dimension. Dimension 4 is described and not yet accepted.
+const TABLE: [Limits; 3] = [
+    Limits { n: 2, accepted: true, terms: 15, readable: 268_435_456 },
+    Limits { n: 3, accepted: true, terms: 35, readable: 268_435_456 },
+    Limits { n: 4, accepted: false, terms: 70, readable: 524_288 },
+];
+
+/// The dimensions of the table, accepted or not.
+pub const DIMENSIONS: [usize; TABLE.len()] = [TABLE[0].n, TABLE[1].n, TABLE[2].n];
+
+impl Limits {
+    /// The limits of a dimension of the table.
+    pub fn of(n: usize) -> &'static Limits {
+        TABLE.iter().find(|row| row.n == n).expect("a dimension of the table")
+    }
+
+    pub fn is_readable(&self, value: i128) -> bool {
+        -self.readable <= value && value <= self.readable
+    }
+}
+
+/// Whether Open accepts the dimension.
+pub fn dimension_ok(n: usize) -> bool {
+    TABLE.iter().any(|row| row.n == n && row.accepted)
+}
+
+/// The dimensions that Open accepts.
+pub fn accepted() -> Vec<usize> {
+    DIMENSIONS.into_iter().filter(|&n| dimension_ok(n)).collect()
+}
+
+/// The largest size of a coefficient.
+pub const LARGEST_COEFFICIENT: i64 = 1_048_576;
+/// The largest size of a coordinate.
+pub const LARGEST_COORDINATE: i64 = 256;
+/// The largest sum of a term's exponents.
+pub const LARGEST_DEGREE: u32 = 4;
