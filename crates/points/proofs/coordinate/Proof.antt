@@ -1,15 +1,15 @@
 -- `points::coordinate` meets its contract: the share lies from 0 to 1, so the rounding leaf may be asked, and what it gives is the definition's.
-use native.Mathlib.Omega.{arith}
+use borrow.Author.Needs.{needs}
 use Rattle.points.proofs.Rounded.{asks-num, asks-d, asks-round, fits-steps, fits-low, fits-coordinate, coordinate-is}
 use Rattle.points.proofs.coordinate.Statement.{statement}
 use Rattle.points.proofs.coordinate.Tie as tie
 
 size-requires : tie.Need-size-requires
-size-requires c κs = omega (arith, asks-num (c .args .low) (c .args .num) (c .args .d) (c .pre .0) (c .pre .1 .0) (c .pre .1 .1) .size)
+size-requires c κs = let h = asks-num (c .args .low) (c .args .num) (c .args .d) (c .pre .0) (c .pre .1 .0) (c .pre .1 .1) .size in search needs
 
 size-requires-2 : tie.Need-size-requires-2
 size-requires-2 c κs =
-    omega (arith, asks-d (c .before .args .low) (c .before .args .num) (c .before .args .d) (c .before .pre .0) (c .before .pre .1 .0) (c .before .pre .1 .1) .size)
+    let h = asks-d (c .before .args .low) (c .before .args .num) (c .before .args .d) (c .before .pre .0) (c .before .pre .1 .0) (c .before .pre .1 .1) .size in search needs
 
 round-steps-requires : tie.Need-round-steps-requires
 round-steps-requires c κs =
