@@ -1,5 +1,5 @@
 -- The size of a coefficient: with entries of size at most B, it is at most (n − 1)! · B to the n − 1, as a cofactor of n − 1 rows.
-use Prim.Native.Nat.{ℕ, suc, zero, _*_, _^_, _≤_, _<_}
+use Prim.Native.Nat.{ℕ, suc, zero, _*_, _^_, _<_}
 use native.Mathlib.Omega.{arith}
 use mathlib.Core.Path.{_≡_, sym, subst}
 use mathlib.Core.List.{List, [], _∷_}
@@ -39,7 +39,6 @@ module _ (n B : ℕ) (cs : List Column) (q : Each (EntriesWithin B) cs) (i j : �
   -- the minor without column i and row j
   pub minor-size : Size (factorial n * B ^ n) (det (remove j (rowsFrom 0 (suc n))) (remove i cs))
   minor-size =
-      let rows = remove j (rowsFrom 0 (suc n)) in
       subst (λ (m : ℕ). Size (factorial m * B ^ m) (det (remove j (rowsFrom 0 (suc n))) (remove i cs))) left
       (det-size (EntriesWithin B) B (remove j (rowsFrom 0 (suc n)))
       (λ h m. rows-all (λ g. (c : Column) → EntriesWithin B c → Size B (g c)) 0 (suc n) (λ k low high c r. r k) h (in-remove j (rowsFrom 0 (suc n)) m))

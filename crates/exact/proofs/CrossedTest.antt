@@ -12,18 +12,11 @@ use Rattle.exact.specs.Int.{0ℤ}
 use Rattle.exact.specs.Sign.{Sign, negative, nought, positive, sign, orElse, lexSign, sameSign}
 use Rattle.exact.specs.Det.{Column, determinant}
 use Rattle.exact.specs.Crossed.{countFrom, coefficient, coefficients, allHaveSign, crossed, Crossed}
+use Rattle.exact.proofs.AndTests.{and-left, and-right}
 use Rattle.exact.proofs.SignLaws.{sign-nought, sign-zero}
 use Rattle.exact.proofs.LexSign.{sameSign-refl, sameSign-sound, sign-discrete}
 
 -- ---- tests
-
-and-left : (a b : Bool) → (a && b) ≡ true → a ≡ true
-and-left true b h = refl
-and-left false b h = h
-
-and-right : (a b : Bool) → (a && b) ≡ true → b ≡ true
-and-right true b h = h
-and-right false b h = absurd (false≢true h)
 
 and-intro : (a b : Bool) → a ≡ true → b ≡ true → (a && b) ≡ true
 and-intro a b p q = rw (p, q)

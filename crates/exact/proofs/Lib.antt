@@ -1,4 +1,5 @@
 -- The laws of the definitions in specs/, a file for each idea: integers, determinants, signs, and the theorem on simplices.
+pub mod AndTests
 pub mod Ring
 pub mod Solver
 pub mod Linear

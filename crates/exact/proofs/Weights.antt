@@ -5,7 +5,7 @@
 use Prim.Native.Nat.{ℕ, suc, zero, _+_, _≤_, _<_}
 use native.Mathlib.Omega.{arith}
 use mathlib.Core.Path.{_≡_, refl, sym, ap, ap₂, _∙_, fun-ext}
-use mathlib.Core.Bool.{Bool, true, false, not, _&&_, true≢false, false≢true}
+use mathlib.Core.Bool.{true, false, not, _&&_, true≢false, false≢true}
 use mathlib.Core.Logic.{_⊎_, inl, inr}
 use mathlib.Core.List.{List, [], _∷_}
 use native.Mathlib.Decide.{ℕ-discrete}
@@ -16,6 +16,7 @@ use Rattle.exact.specs.Det.{Column, laplace, det, ifNone, rowsFrom, dete
 use Rattle.exact.specs.Sign.{Sign, negative, nought, positive, sign, orElse, lexSign, sameSign}
 use Rattle.exact.specs.Crossed.{countFrom, unitColumn, coefficient, coefficients, allHaveSign, crossed}
 use Rattle.exact.specs.Minors.{sumTo}
+use Rattle.exact.proofs.AndTests.{and-left, and-right}
 use Rattle.exact.proofs.Ring.{sub-eq}
 use Rattle.exact.proofs.Identities.{ring}
 use Rattle.exact.proofs.DetRows.{laplace-zero-rest}
@@ -93,14 +94,6 @@ weights-sum m cs ones =
     ∙ sym (laplace-ones (λ c. getD c 0 0ℤ) (det (rowsFrom 1 m)) [] cs ones)
 
 -- ---- signs
-
-and-left : (a b : Bool) → (a && b) ≡ true → a ≡ true
-and-left true b h = refl
-and-left false b h = absurd (false≢true h)
-
-and-right : (a b : Bool) → (a && b) ≡ true → b ≡ true
-and-right true b h = h
-and-right false b h = absurd (false≢true h)
 
 all-at :
     (n : ℕ) (cs : List Column) (s : Sign) (k m : ℕ) → allHaveSign n cs s (countFrom k m) ≡ true

@@ -1,17 +1,14 @@
 -- The entries that the code reads from the cells: their sizes, and that they are the entries of the columns.
-use Prim.Native.Nat.{ℕ, suc, zero, _+_, _*_, _^_, _-_, _≤_, _<_}
+use Prim.Native.Nat.{ℕ, suc, zero, _+_, _*_, _^_, _-_, _≤_}
 use mathlib.Core.Path.{_≡_, refl, sym, ap, _∙_, subst}
-use mathlib.Core.Bool.{cond}
 use mathlib.Core.List.{List, [], _∷_}
 use native.Mathlib.Omega.{arith}
 use lib.IntN.{ℤ}
-use lib.Dec.{leb, lit≤}
+use lib.Dec.{lit≤}
 use lib.ListN.{getD}
 use Rattle.exact.specs.Int.{0ℤ, 1ℤ}
 use Rattle.exact.specs.Size.{Size}
 use Rattle.exact.specs.Det.{det}
-use Rattle.exact.specs.Crossed.{countFrom}
-use Rattle.exact.specs.Minors.{skip}
 use Rattle.exact.proofs.SizeLaws.{size-pos, size-weaken, size-sub, size-mul}
 use Rattle.exact.proofs.Bits.{Holds, holds-call, back, back-is}
 use Rattle.exact.proofs.CountFrom.{getD-map-countFrom}
@@ -20,13 +17,6 @@ use Rattle.bits.specs.Axes.{Axes}
 use Rattle.bits.proofs.EachDimension.{each-axes}
 use Rattle.facets.specs.Cells.{Cells, columnAt, entryLimit}
 use Rattle.facets.specs.Entries.{entryAt, CellsWithin}
-
--- an index with one left out is at most one further
-pub skip-most : (p i : ℕ) → skip p i ≤ suc i
-unfolding skip
-skip-most zero i = omega arith
-skip-most (suc p) zero = omega arith
-skip-most (suc p) (suc i) = omega (arith, skip-most p i)
 
 -- ---- the two ways of `entry`
 pub top-entry : (cells : List ℤ) (r v : ℕ) → r ≡ 0 → 1ℤ ≡ entryAt cells r v
@@ -64,12 +54,12 @@ pub entry-of-three :
 unfolding entryLimit
 entry-of-three w r v e = entry-held w (lit≤ tt) (lit≤ tt) r v e
 
--- what a call of `pair` gives within a determinant of three rows
-pub pair-of-three :
+-- what a call of `two_rows` gives within a determinant of three rows
+pub two-rows-of-three :
     {cells : List ℤ} → CellsWithin (entryLimit 4) cells → (r s a b : ℕ) {z : ℤ} → z ≡ det (entryAt cells r ∷ entryAt cells s ∷ []) (a ∷ b ∷ [])
     → Holds (2 ^ 39) (back z) (det (entryAt cells r ∷ entryAt cells s ∷ []) (a ∷ b ∷ []))
 unfolding entryLimit
-pair-of-three {cells} w r s a b e =
+two-rows-of-three {cells} w r s a b e =
     let size : (k v : ℕ) → Size (2 ^ 19) (entryAt cells k v) = entry-size (2 ^ 19) cells w (lit≤ tt) in
     holds-call
     (record {

@@ -12,7 +12,7 @@ use mir.Val.{SFits}
 use Rattle.exact.specs.Int.{neg, 0ℤ, 1ℤ}
 use Rattle.exact.specs.Size.{Size, Is}
 use Rattle.exact.specs.Factorial.{factorial}
-use Rattle.exact.specs.Det.{Column, det, rowsFrom, determinant}
+use Rattle.exact.specs.Det.{det, rowsFrom, determinant}
 use Rattle.exact.specs.Crossed.{countFrom, coefficient, remove}
 use Rattle.exact.specs.Minors.{alternate, skip, sumTo}
 use Rattle.exact.proofs.Ring.{sub-eq, zero-add}

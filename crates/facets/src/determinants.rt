@@ -2,7 +2,7 @@
 
 ghost use mathlib.Core.Path.{_≡_};
 ghost use mathlib.Core.List.{[], _∷_};
-ghost use Prim.Native.Nat.{_≤_, _<_};
+ghost use Prim.Native.Nat.{_+_, _≤_, _<_};
 ghost use Rattle.exact.specs.Size.{Is};
 ghost use Rattle.exact.specs.Det.{det, rowsFrom, determinant};
 ghost use Rattle.exact.specs.Crossed.{remove, coefficient};
@@ -13,7 +13,7 @@ ghost use Rattle.facets.specs.Entries.{entryAt, CellsWithin, coefficient
 // The place in the whole list of element i of the list without element p.
 fn skip(p: usize, i: usize) -> usize
     requires { ⌜ i < 5 ⌝ }
-    ensures { λ r. ⌜ r ≡ skip p i ⌝ }
+    ensures { λ r. ⌜ (r ≡ skip p i) × (r ≤ i + 1) ⌝ }
 {
     if i < p {
         return i;
@@ -34,7 +34,7 @@ fn entry(cells: &[i64; 15], row: usize, v: usize) -> i64
 }
 
 // The determinant of rows r and s in the columns of vertices a and b.
-fn pair(cells: &[i64; 15], r: usize, s: usize, a: usize, b: usize) -> i64
+fn two_rows(cells: &[i64; 15], r: usize, s: usize, a: usize, b: usize) -> i64
     requires { ⌜ CellsWithin (entryLimit 3) (now cells) ⌝ }
     requires { ⌜ ((r < 4) × (s < 4)) × ((a < 5) × (b < 5)) ⌝ }
     ensures { λ z. ⌜ z ≡ det (entryAt (now (cells .entry)) r ∷ entryAt (now (cells .entry)) s ∷ []) (a ∷ b ∷ []) ⌝ }
@@ -43,14 +43,14 @@ fn pair(cells: &[i64; 15], r: usize, s: usize, a: usize, b: usize) -> i64
 }
 
 // The determinant of three rows in the columns of three vertices, expanded along the first row.
-fn triple(cells: &[i64; 15], r: usize, s: usize, t: usize, a: usize, b: usize, c: usize) -> i64
+fn three_rows(cells: &[i64; 15], r: usize, s: usize, t: usize, a: usize, b: usize, c: usize) -> i64
     requires { ⌜ CellsWithin (entryLimit 4) (now cells) ⌝ }
     requires { ⌜ ((r < 4) × ((s < 4) × (t < 4))) × ((a < 5) × ((b < 5) × (c < 5))) ⌝ }
     ensures { λ z. ⌜ z ≡ det (entryAt (now (cells .entry)) r ∷ entryAt (now (cells .entry)) s ∷ entryAt (now (cells .entry)) t ∷ []) (a ∷ b ∷ c ∷ []) ⌝ }
 {
-    let first = entry(cells, r, a) * pair(cells, s, t, b, c);
-    let second = entry(cells, r, b) * pair(cells, s, t, a, c);
-    let third = entry(cells, r, c) * pair(cells, s, t, a, b);
+    let first = entry(cells, r, a) * two_rows(cells, s, t, b, c);
+    let second = entry(cells, r, b) * two_rows(cells, s, t, a, c);
+    let third = entry(cells, r, c) * two_rows(cells, s, t, a, b);
     first - second + third
 }
 
@@ -68,11 +68,11 @@ fn minor(n: usize, cells: &[i64; 15], out: usize, i: usize, j: usize) -> i64
     let s = skip(j, 1);
     let b = skip(out, skip(i, 1));
     if n == 3 {
-        return pair(cells, r, s, a, b);
+        return two_rows(cells, r, s, a, b);
     }
     let t = skip(j, 2);
     let c = skip(out, skip(i, 2));
-    triple(cells, r, s, t, a, b, c)
+    three_rows(cells, r, s, t, a, b, c)
 }
 
 // The coefficient of power j at vertex i of the facet without vertex `out`: the cofactor.

@@ -1,6 +1,5 @@
 -- Laws of weights and of rounding, for the proofs of the functions.
 pub mod Doubling
-pub mod AbsoluteValue
 pub mod WeightSums
 pub mod Rounded
 pub mod Shares

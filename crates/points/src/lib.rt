@@ -1,59 +1,65 @@
 // The point of a crossed facet: the sums of the weights, each rounded down to 1/1024.
 pub mod rounding;
 
-use determinants::coefficient;
-use determinants::determinant;
+use bits::read::size;
+use facets::determinants::coefficient;
+use facets::determinants::determinant;
 use paper::StepPoint;
+use places::HeldPlace;
 use rounding::round_steps;
 ghost use mathlib.Core.Path.{_≡_};
 ghost use mathlib.Core.Bool.{cond, true};
 ghost use mathlib.Core.List.{[], _∷_};
-ghost use Prim.Native.Nat.{_<_};
-ghost use lib.IntN.{natAbs};
+ghost use Prim.Native.Nat.{_-_, _<_};
+ghost use lib.ListN.{getD};
 ghost use Rattle.exact.specs.Int.{0ℤ};
-ghost use Rattle.exact.specs.Size.{Size};
+ghost use Rattle.exact.specs.Size.{Size, Is};
+ghost use Rattle.exact.specs.Det.{determinant};
 ghost use Rattle.exact.specs.Crossed.{coefficient, crossed};
 ghost use Rattle.paper.specs.Values.{hasAxis, weightSum, coordinateSteps, pointFrom};
 ghost use Rattle.paper.specs.Answers.{padded};
-ghost use Rattle.paper.specs.Cells.{columnList, maskList, lowVertex, FacetCells};
-ghost use Rattle.determinants.specs.Sizes.{CellSizes};
-ghost use Rattle.points.specs.Shares.{Share, denominatorLimit, lowLimit};
+ghost use Rattle.places.specs.Held.{vertexAs, masksAs, VertexSize};
+ghost use Rattle.facets.specs.Cells.{Cells, facetColumns};
+ghost use Rattle.facets.specs.Entries.{coefficientLimit, determinantLimit};
+ghost use Rattle.points.specs.Shares.{Share, denominatorLimit, lowLimit, stepsLimit};
+
+// The mask of vertex i, which is not the lowest.
+fn mask_at(p: HeldPlace, i: usize) -> u64
+    requires { ⌜ (0 < i) × (i < 4) ⌝ }
+    ensures { λ r. ⌜ r ≡ getD (masksAs 4 p) (i - 1) 0 ⌝ }
+{
+    if i == 1 {
+        return p.mask1;
+    }
+    if i == 2 {
+        return p.mask2;
+    }
+    p.mask3
+}
 
 // The coefficient of power 0 at vertex i if the vertex's mask has the axis, else 0.
-fn weight(n: usize, cols: [i64; 9], i: usize, mask: u64, axis: usize) -> i64
-    requires { ⌜ CellSizes n cols ⌝ }
+fn weight(n: usize, cells: &[i64; 15], i: usize, mask: u64, axis: usize) -> i64
+    requires { ⌜ Cells n (now cells) ⌝ }
     requires { ⌜ (i < n) × (axis < 3) ⌝ }
-    ensures { λ r. ⌜ r ≡ cond (hasAxis mask axis) (coefficient n (columnList n cols) i 0) 0ℤ ⌝ }
+    ensures { λ r. ⌜ Is coefficientLimit (cond (hasAxis mask axis) (coefficient n (facetColumns n (now (cells .entry)) n) i 0) 0ℤ) r ⌝ }
 {
     if (mask >> axis) % 2 == 1 {
-        return coefficient(n, cols, i, 0);
+        return coefficient(n, cells, n, i, 0);
     }
     0
 }
 
 // The sum of the weights, times D, of those vertices whose mask has the axis.
-pub fn weight_sum(n: usize, cols: [i64; 9], mask1: u64, mask2: u64, axis: usize) -> i64
-    requires { ⌜ CellSizes n cols ⌝ }
+fn weight_sum(n: usize, p: HeldPlace, cells: &[i64; 15], axis: usize) -> i64
+    requires { ⌜ Cells n (now cells) ⌝ }
     requires { ⌜ axis < 3 ⌝ }
-    ensures { λ r. ⌜ r ≡ weightSum n (columnList n cols) 1 (maskList n mask1 mask2) axis ⌝ }
+    ensures { λ r. ⌜ Is determinantLimit (weightSum n (facetColumns n (now (cells .entry)) n) 1 (masksAs n p) axis) r ⌝ }
 {
-    let first = weight(n, cols, 1, mask1, axis);
-    if n == 2 {
-        return first;
+    let mut sum: i64 = 0;
+    for i in 1..n {
+        sum += weight(n, cells, i, mask_at(p, i), axis);
     }
-    let second = weight(n, cols, 2, mask2, axis);
-    first + second
-}
-
-// The absolute value.
-fn size_of(x: i64) -> u64
-    requires { ⌜ Size denominatorLimit x ⌝ }
-    ensures { λ r. ⌜ r ≡ natAbs x ⌝ }
-{
-    if x < 0 {
-        return (-x) as u64;
-    }
-    x as u64
+    sum
 }
 
 // One coordinate of the point: 1024 times the lowest vertex's, plus 1024 times the sum of weights, rounded down.
@@ -61,24 +67,37 @@ pub fn coordinate(low: i64, num: i64, d: i64) -> i64
     requires { ⌜ (Size lowLimit low) × ((Size denominatorLimit d) × (Share num d)) ⌝ }
     ensures { λ r. ⌜ r ≡ coordinateSteps low num d ⌝ }
 {
-    let steps = round_steps(size_of(num), size_of(d));
+    let steps = round_steps(size(num), size(d));
     1024 * low + steps as i64
 }
 
-// The point of a crossed facet, in steps of 1/1024; z is 0 in dimension 2.
-pub fn point(n: usize, x: i64, y: i64, z: i64, cols: [i64; 9], mask1: u64, mask2: u64) -> StepPoint
-    requires { ⌜ FacetCells n cols ⌝ }
-    requires { ⌜ crossed n (columnList n cols) ≡ true ⌝ }
-    requires { ⌜ (Size lowLimit x) × ((Size lowLimit y) × (Size lowLimit z)) ⌝ }
-    ensures { λ r. ⌜ r .x ∷ r .y ∷ r .z ∷ [] ≡ padded 0ℤ 3 (pointFrom n (columnList n cols) (maskList n mask1 mask2) 0 (lowVertex n x y z)) ⌝ }
+// The coordinate on one axis of the point of a crossed facet with determinant d; low is the lowest vertex's.
+fn on_axis(n: usize, p: HeldPlace, cells: &[i64; 15], axis: usize, low: i64, d: i64) -> i64
+    requires { ⌜ Cells n (now cells) ⌝ }
+    requires { ⌜ crossed n (facetColumns n (now cells) n) ≡ true ⌝ }
+    requires { ⌜ (axis < 3) × ((Size lowLimit low) × (Is determinantLimit (determinant n (facetColumns n (now cells) n)) d)) ⌝ }
+    ensures { λ r. ⌜ Is stepsLimit (coordinateSteps low (weightSum n (facetColumns n (now (cells .entry)) n) 1 (masksAs n p) axis) (determinant n (facetColumns n (now (cells .entry)) n))) r ⌝ }
 {
-    let d = determinant(n, cols);
-    let px = coordinate(x, weight_sum(n, cols, mask1, mask2, 0), d);
-    let py = coordinate(y, weight_sum(n, cols, mask1, mask2, 1), d);
+    coordinate(low, weight_sum(n, p, cells, axis), d)
+}
+
+// The point of a crossed facet, in steps of 1/1024; z is 0 in dimension 2.
+pub fn point(n: usize, p: HeldPlace, cells: &[i64; 15]) -> StepPoint
+    requires { ⌜ Cells n (now cells) ⌝ }
+    requires { ⌜ crossed n (facetColumns n (now cells) n) ≡ true ⌝ }
+    requires { ⌜ VertexSize lowLimit (p .low) ⌝ }
+    ensures { λ r. ⌜ r .x ∷ r .y ∷ r .z ∷ [] ≡ padded 0ℤ 3 (pointFrom n (facetColumns n (now (cells .entry)) n) (masksAs n p) 0 (vertexAs n (p .low))) ⌝ }
+{
+    let x = p.low.x;
+    let y = p.low.y;
+    let z = p.low.z;
+    let d = determinant(n, cells, n);
+    let px = on_axis(n, p, cells, 0, x, d);
+    let py = on_axis(n, p, cells, 1, y, d);
     if n == 2 {
         return StepPoint { x: px, y: py, z: 0 };
     }
-    let pz = coordinate(z, weight_sum(n, cols, mask1, mask2, 2), d);
+    let pz = on_axis(n, p, cells, 2, z, d);
     StepPoint {
         x: px,
         y: py,

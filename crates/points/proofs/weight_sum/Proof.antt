@@ -1,56 +1,78 @@
--- `points::weight_sum` meets its contract: one weight in dimension 2, two in dimension 3, and their sum fits.
-use mathlib.Core.Path.{_≡_, sym, ap, _∙_, subst}
+-- `points::weight_sum` meets its contract: before vertex i the sum and what the vertices from i on add are the definition's sum.
+use Prim.Native.Nat.{_-_}
+use mathlib.Core.Path.{subst}
 use native.Mathlib.Omega.{arith}
-use lib.Dec.{lit≤}
-use Rattle.exact.proofs.Bits.{Holds, holds, back, back-is, fits-add, holds-add}
-use Rattle.paper.proofs.Tests.{dimension-not-two, dimension-range}
-use Rattle.points.proofs.WeightSums.{weightAt, weightSum-one, weightSum-two, weightAt-size}
-use Rattle.paper.specs.Cells.{columnList}
-use Rattle.determinants.specs.Sizes.{determinantLimit}
+use mir.Syntax.{w64}
+use mir.Val.{toZ}
+use lib.ListN.{getD}
+use Rattle.exact.specs.Size.{Is}
+use Rattle.places.specs.Held.{masksAs}
+use Rattle.facets.specs.Cells.{facetColumns}
+use Rattle.facets.specs.Entries.{coefficientLimit}
+use Rattle.points.proofs.WeightSums.{Summed, weightAt, summed-none, summed-fits, summed-next, summed-all}
 use Rattle.points.proofs.weight_sum.Statement.{statement}
 use Rattle.points.proofs.weight_sum.Tie as tie
 
-weight-requires : tie.Need-weight-requires
-weight-requires c κs =
-    let ge = dimension-range (c .args .n) (c .pre .0 .dimension) .low in (c .pre .0, (omega arith, c .pre .1))
+abbrev Inv-loop : tie.InvT-loop
+Inv-loop n p cells axis sum₀ i₀ sum i = Summed n (facetColumns n cells n) p axis i (toZ w64 sum)
 
-returns : tie.Need-returns
+abbrev μ-loop : tie.MeasureT-loop
+μ-loop n p cells axis sum₀ i₀ sum i = n - i
+
+loop-holds : tie.Need-loop-holds Inv-loop μ-loop
+loop-holds c = summed-none (c .args .n) (c .pre .0 .axes) (facetColumns (c .args .n) (c .args .cells .now) (c .args .n)) (c .args .p) (c .args .axis)
+
+mask-at-requires : tie.Need-mask-at-requires Inv-loop μ-loop
+mask-at-requires c κs =
+    (c .before .loop .inv .low, omega (arith, c .loop-test .taken, c .before .before .pre .0 .axes .high))
+
+weight-requires : tie.Need-weight-requires Inv-loop μ-loop
+weight-requires c κs = (c .before .before .before .pre .0, (c .before .loop-test .taken, c .before .before .before .pre .1))
+
+-- what the vertex adds, by its mask
+given :
+    (c : tie.After-weight Inv-loop μ-loop)
+    → Is coefficientLimit
+    (weightAt (c .before .before .before .before .args .n) (facetColumns (c .before .before .before .before .args .n) (c .before .before .before .before .args .cells .now) (c .before .before .before .before .args .n)) (c .before .before .before .loop .i)
+    (getD (masksAs 4 (c .before .before .before .before .args .p)) (c .before .before .before .loop .i - 1) 0) (c .before .before .before .before .args .axis))
+    (c .weight .result)
+given c =
+    subst
+    (λ mask. Is coefficientLimit (weightAt (c .before .before .before .before .args .n) (facetColumns (c .before .before .before .before .args .n) (c .before .before .before .before .args .cells .now) (c .before .before .before .before .args .n)) (c .before .before .before .loop .i) mask (c .before .before .before .before .args .axis)) (c .weight .result))
+    (c .before .mask-at .ensures) (c .weight .ensures)
+
+add-sum : tie.Need-add-sum Inv-loop μ-loop
+add-sum c =
+    summed-fits (c .before .before .before .before .args .n) (c .before .before .before .before .pre .0 .axes) (facetColumns (c .before .before .before .before .args .n) (c .before .before .before .before .args .cells .now) (c .before .before .before .before .args .n)) (c .before .before .before .before .args .p) (c .before .before .before .before .args .axis)
+    (c .before .before .before .loop .i) _ (c .weight .result) (c .before .before .loop-test .taken) (c .before .before .before .loop .inv) (given c)
+
+add-i : tie.Need-add-i Inv-loop μ-loop
+add-i c = omega arith
+
+loop-less : tie.Need-loop-less Inv-loop μ-loop
+loop-less c = omega arith
+
+loop-again : tie.Need-loop-again Inv-loop μ-loop
+loop-again c =
+    summed-next (c .before .before .before .before .args .n) (c .before .before .before .before .pre .0 .axes) (facetColumns (c .before .before .before .before .args .n) (c .before .before .before .before .args .cells .now) (c .before .before .before .before .args .n)) (c .before .before .before .before .args .p) (c .before .before .before .before .args .axis)
+    (c .before .before .before .loop .i) _ (c .weight .result) (c .before .before .loop-test .taken) (c .before .before .before .loop .inv) (given c)
+
+returns : tie.Need-returns Inv-loop μ-loop
 returns c =
-    ap back (c .before .weight .ensures)
-    ∙ back-is (weightAt-size _ _ 1 (c .before .before .args .mask1) (c .before .before .args .axis) (c .before .before .pre .0) (c .before .before .good .1 .0 .1 .0 .1) (dimension-range _ (c .before .before .pre .0 .dimension) .low)) (lit≤ tt)
-    ∙ sym (weightSum-one _ _ (c .before .before .args .mask1) (c .before .before .args .mask2) (c .before .before .args .axis) (c .if1 .taken))
-
-weight-requires-2 : tie.Need-weight-requires-2
-weight-requires-2 c κs =
-    let three = dimension-not-two (c .before .before .args .n) (c .before .before .pre .0 .dimension) (c .if1 .left) in
-    (c .before .before .pre .0, (omega arith, c .before .before .pre .1))
-
--- the two weights, as the machine holds them
-first-held :
-    (c : tie.After-weight2) → Holds determinantLimit (back (c .before .before .weight .result)) (weightAt (c .before .before .before .args .n) (columnList (c .before .before .before .args .n) (c .before .before .before .args .cols)) 1 (c .before .before .before .args .mask1) (c .before .before .before .args .axis))
-first-held c =
-    subst (λ r. Holds determinantLimit (back r) (weightAt (c .before .before .before .args .n) (columnList (c .before .before .before .args .n) (c .before .before .before .args .cols)) 1 (c .before .before .before .args .mask1) (c .before .before .before .args .axis)))
-    (sym (c .before .before .weight .ensures))
-    (holds (weightAt-size _ _ 1 (c .before .before .before .args .mask1) (c .before .before .before .args .axis) (c .before .before .before .pre .0) (c .before .before .before .good .1 .0 .1 .0 .1) (dimension-range _ (c .before .before .before .pre .0 .dimension) .low)) (lit≤ tt))
-
-three : (c : tie.After-weight2) → c .before .before .before .args .n ≡ 3
-three c = dimension-not-two (c .before .before .before .args .n) (c .before .before .before .pre .0 .dimension) (c .before .if1 .left)
-
-second-held :
-    (c : tie.After-weight2) → Holds determinantLimit (back (c .weight2 .result)) (weightAt (c .before .before .before .args .n) (columnList (c .before .before .before .args .n) (c .before .before .before .args .cols)) 2 (c .before .before .before .args .mask2) (c .before .before .before .args .axis))
-second-held c =
-    subst (λ r. Holds determinantLimit (back r) (weightAt (c .before .before .before .args .n) (columnList (c .before .before .before .args .n) (c .before .before .before .args .cols)) 2 (c .before .before .before .args .mask2) (c .before .before .before .args .axis)))
-    (sym (c .weight2 .ensures))
-    (holds (weightAt-size _ _ 2 (c .before .before .before .args .mask2) (c .before .before .before .args .axis) (c .before .before .before .pre .0) (c .before .before .before .good .1 .0 .1 .0 .1) (omega (arith, three c))) (lit≤ tt))
-
-add-result : tie.Need-add-result
-add-result c = fits-add (first-held c) (second-held c) (lit≤ tt)
-
-returns-2 : tie.Need-returns-2
-returns-2 c =
-    holds-add (first-held c) (second-held c) (lit≤ tt) .is
-    ∙ sym (weightSum-two _ _ (c .before .before .before .args .mask1) (c .before .before .before .args .mask2) (c .before .before .before .args .axis) (three c))
+    summed-all (c .before .before .args .n) (c .before .before .pre .0 .axes) (facetColumns (c .before .before .args .n) (c .before .before .args .cells .now) (c .before .before .args .n)) (c .before .before .args .p) (c .before .before .args .axis) (c .before .loop .i) _
+    (omega (arith, c .before .loop .inv .high, c .loop-test .left)) (c .before .loop .inv)
 
 pub weight-sum-spec : {M : Type 1} → statement M
 weight-sum-spec =
-    tie.close (tie.spec weight-requires returns weight-requires-2 add-result returns-2)
+    tie.close
+    (tie.spec
+    Inv-loop
+    μ-loop
+    loop-holds
+    mask-at-requires
+    weight-requires
+    add-sum
+    add-i
+    loop-less
+    loop-again
+    returns)

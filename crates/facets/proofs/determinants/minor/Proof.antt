@@ -1,7 +1,7 @@
 -- `determinants::minor` meets its contract: the rows and vertices that are left are those of the definition, and in each dimension the leaf called
 -- is the determinant of them.
 use native.Mathlib.Omega.{arith}
-use Rattle.facets.proofs.Entries.{skip-most, cells-most, cells-four}
+use Rattle.facets.proofs.Entries.{cells-most, cells-four}
 use Rattle.facets.proofs.FacetMinors.{given-one, given-two, given-three}
 use borrow.Author.Needs.{needs}
 use Rattle.facets.proofs.determinants.minor.Statement.{statement}
@@ -14,20 +14,14 @@ skip-requires-2 : tie.Need-skip-requires-2
 skip-requires-2 c κs = search needs
 
 skip-requires-3 : tie.Need-skip-requires-3
-skip-requires-3 c κs = omega (arith, c .skip2 .ensures, skip-most (c .before .before .args .i) 0)
+skip-requires-3 c κs = omega (arith, c .skip2 .ensures .1)
 
 entry-requires : tie.Need-entry-requires
-entry-requires c κs = (
-  cells-most (c .before .before .before .before .pre .0),
-  (
-    omega (arith, c .before .before .before .skip .ensures, skip-most (c .before .before .before .before .args .j) 0),
-    omega (arith, c .before .before .skip2 .ensures, skip-most (c .before .before .before .before .args .i) 0, c .before .skip3 .ensures, skip-most (c .before .before .before .before .args .out) (c .before .before .skip2 .result)),
-  ),
-)
+entry-requires c κs = (cells-most (c .before .before .before .before .pre .0), (omega (arith, c .before .before .before .skip .ensures .1), omega (arith, c .before .before .skip2 .ensures .1, c .before .skip3 .ensures .1)))
 
 returns : tie.Need-returns
 returns c =
-    given-one (c .before .before .before .before .before .args .n) (c .before .before .before .before .before .args .cells .now) (c .before .before .before .before .before .pre .0) (c .before .before .before .before .before .args .out) (c .before .before .before .before .before .args .i) (c .before .before .before .before .before .args .j) (c .before .before .before .before .before .pre .1 .1 .0) (c .before .before .before .before .before .pre .1 .1 .1) (c .before .before .before .before .before .pre .1 .0) (c .before .before .before .before .skip .ensures) (c .before .before .before .skip2 .ensures) (c .before .before .skip3 .ensures) (c .before .if1 .taken) (c .entry .ensures)
+    given-one (c .before .before .before .before .before .args .n) (c .before .before .before .before .before .args .cells .now) (c .before .before .before .before .before .pre .0) (c .before .before .before .before .before .args .out) (c .before .before .before .before .before .args .i) (c .before .before .before .before .before .args .j) (c .before .before .before .before .before .pre .1 .1 .0) (c .before .before .before .before .before .pre .1 .1 .1) (c .before .before .before .before .before .pre .1 .0) (c .before .before .before .before .skip .ensures .0) (c .before .before .before .skip2 .ensures .0) (c .before .before .skip3 .ensures .0) (c .before .if1 .taken) (c .entry .ensures)
 
 skip-requires-4 : tie.Need-skip-requires-4
 skip-requires-4 c κs = search needs
@@ -36,20 +30,17 @@ skip-requires-5 : tie.Need-skip-requires-5
 skip-requires-5 c κs = search needs
 
 skip-requires-6 : tie.Need-skip-requires-6
-skip-requires-6 c κs = omega (arith, c .skip5 .ensures, skip-most (c .before .before .before .before .before .before .args .i) 1)
+skip-requires-6 c κs = omega (arith, c .skip5 .ensures .1)
 
-pair-requires : tie.Need-pair-requires
-pair-requires c κs = (
+two-rows-requires : tie.Need-two-rows-requires
+two-rows-requires c κs = (
   cells-most (c .before .before .before .before .before .before .before .before .pre .0),
-  (
-    (omega (arith, c .before .before .before .before .before .before .before .skip .ensures, skip-most (c .before .before .before .before .before .before .before .before .args .j) 0), omega (arith, c .before .before .before .skip4 .ensures, skip-most (c .before .before .before .before .before .before .before .before .args .j) 1)),
-    (omega (arith, c .before .before .before .before .before .before .skip2 .ensures, skip-most (c .before .before .before .before .before .before .before .before .args .i) 0, c .before .before .before .before .before .skip3 .ensures, skip-most (c .before .before .before .before .before .before .before .before .args .out) (c .before .before .before .before .before .before .skip2 .result)), omega (arith, c .before .before .skip5 .ensures, skip-most (c .before .before .before .before .before .before .before .before .args .i) 1, c .before .skip6 .ensures, skip-most (c .before .before .before .before .before .before .before .before .args .out) (c .before .before .skip5 .result))),
-  ),
+  ((omega (arith, c .before .before .before .before .before .before .before .skip .ensures .1), omega (arith, c .before .before .before .skip4 .ensures .1)), (omega (arith, c .before .before .before .before .before .before .skip2 .ensures .1, c .before .before .before .before .before .skip3 .ensures .1), omega (arith, c .before .before .skip5 .ensures .1, c .before .skip6 .ensures .1))),
 )
 
 returns-2 : tie.Need-returns-2
 returns-2 c =
-    given-two (c .before .before .before .before .before .before .before .before .before .args .n) (c .before .before .before .before .before .before .before .before .before .args .cells .now) (c .before .before .before .before .before .before .before .before .before .pre .0) (c .before .before .before .before .before .before .before .before .before .args .out) (c .before .before .before .before .before .before .before .before .before .args .i) (c .before .before .before .before .before .before .before .before .before .args .j) (c .before .before .before .before .before .before .before .before .before .pre .1 .1 .0) (c .before .before .before .before .before .before .before .before .before .pre .1 .1 .1) (c .before .before .before .before .before .before .before .before .before .pre .1 .0) (c .before .before .before .before .before .before .before .before .skip .ensures) (c .before .before .before .before .before .before .before .skip2 .ensures) (c .before .before .before .before .before .before .skip3 .ensures) (c .before .before .before .before .skip4 .ensures) (c .before .before .before .skip5 .ensures) (c .before .before .skip6 .ensures) (c .before .if2 .taken) (c .pair .ensures)
+    given-two (c .before .before .before .before .before .before .before .before .before .args .n) (c .before .before .before .before .before .before .before .before .before .args .cells .now) (c .before .before .before .before .before .before .before .before .before .pre .0) (c .before .before .before .before .before .before .before .before .before .args .out) (c .before .before .before .before .before .before .before .before .before .args .i) (c .before .before .before .before .before .before .before .before .before .args .j) (c .before .before .before .before .before .before .before .before .before .pre .1 .1 .0) (c .before .before .before .before .before .before .before .before .before .pre .1 .1 .1) (c .before .before .before .before .before .before .before .before .before .pre .1 .0) (c .before .before .before .before .before .before .before .before .skip .ensures .0) (c .before .before .before .before .before .before .before .skip2 .ensures .0) (c .before .before .before .before .before .before .skip3 .ensures .0) (c .before .before .before .before .skip4 .ensures .0) (c .before .before .before .skip5 .ensures .0) (c .before .before .skip6 .ensures .0) (c .before .if2 .taken) (c .two-rows .ensures)
 
 skip-requires-7 : tie.Need-skip-requires-7
 skip-requires-7 c κs = search needs
@@ -58,21 +49,21 @@ skip-requires-8 : tie.Need-skip-requires-8
 skip-requires-8 c κs = search needs
 
 skip-requires-9 : tie.Need-skip-requires-9
-skip-requires-9 c κs = omega (arith, c .skip8 .ensures, skip-most (c .before .before .before .before .before .before .before .before .before .before .args .i) 2)
+skip-requires-9 c κs = omega (arith, c .skip8 .ensures .1)
 
-triple-requires : tie.Need-triple-requires
-triple-requires c κs = (
+three-rows-requires : tie.Need-three-rows-requires
+three-rows-requires c κs = (
   cells-four (c .before .before .before .before .before .before .before .before .before .before .before .pre .0) (omega (arith, c .before .before .before .before .before .before .before .before .before .before .before .pre .0 .axes .low, c .before .before .before .before .before .before .before .before .before .before .before .pre .0 .axes .high)),
   (
-    (omega (arith, c .before .before .before .before .before .before .before .before .before .before .skip .ensures, skip-most (c .before .before .before .before .before .before .before .before .before .before .before .args .j) 0), (omega (arith, c .before .before .before .before .before .before .skip4 .ensures, skip-most (c .before .before .before .before .before .before .before .before .before .before .before .args .j) 1), omega (arith, c .before .before .skip7 .ensures, skip-most (c .before .before .before .before .before .before .before .before .before .before .before .args .j) 2))),
-    (omega (arith, c .before .before .before .before .before .before .before .before .before .skip2 .ensures, skip-most (c .before .before .before .before .before .before .before .before .before .before .before .args .i) 0, c .before .before .before .before .before .before .before .before .skip3 .ensures, skip-most (c .before .before .before .before .before .before .before .before .before .before .before .args .out) (c .before .before .before .before .before .before .before .before .before .skip2 .result)), (omega (arith, c .before .before .before .before .before .skip5 .ensures, skip-most (c .before .before .before .before .before .before .before .before .before .before .before .args .i) 1, c .before .before .before .before .skip6 .ensures, skip-most (c .before .before .before .before .before .before .before .before .before .before .before .args .out) (c .before .before .before .before .before .skip5 .result)), omega (arith, c .before .skip8 .ensures, skip-most (c .before .before .before .before .before .before .before .before .before .before .before .args .i) 2, c .skip9 .ensures, skip-most (c .before .before .before .before .before .before .before .before .before .before .before .args .out) (c .before .skip8 .result)))),
+    (omega (arith, c .before .before .before .before .before .before .before .before .before .before .skip .ensures .1), (omega (arith, c .before .before .before .before .before .before .skip4 .ensures .1), omega (arith, c .before .before .skip7 .ensures .1))),
+    (omega (arith, c .before .before .before .before .before .before .before .before .before .skip2 .ensures .1, c .before .before .before .before .before .before .before .before .skip3 .ensures .1), (omega (arith, c .before .before .before .before .before .skip5 .ensures .1, c .before .before .before .before .skip6 .ensures .1), omega (arith, c .before .skip8 .ensures .1, c .skip9 .ensures .1))),
   ),
 )
 
 returns-3 : tie.Need-returns-3
 returns-3 c =
-    given-three (c .before .before .before .before .before .before .before .before .before .before .before .before .args .n) (c .before .before .before .before .before .before .before .before .before .before .before .before .args .cells .now) (c .before .before .before .before .before .before .before .before .before .before .before .before .pre .0) (c .before .before .before .before .before .before .before .before .before .before .before .before .args .out) (c .before .before .before .before .before .before .before .before .before .before .before .before .args .i) (c .before .before .before .before .before .before .before .before .before .before .before .before .args .j) (c .before .before .before .before .before .before .before .before .before .before .before .before .pre .1 .1 .0) (c .before .before .before .before .before .before .before .before .before .before .before .before .pre .1 .1 .1) (c .before .before .before .before .before .before .before .before .before .before .before .before .pre .1 .0) (c .before .before .before .before .before .before .before .before .before .before .before .skip .ensures) (c .before .before .before .before .before .before .before .before .before .before .skip2 .ensures) (c .before .before .before .before .before .before .before .before .before .skip3 .ensures) (c .before .before .before .before .before .before .before .skip4 .ensures) (c .before .before .before .before .before .before .skip5 .ensures) (c .before .before .before .before .before .skip6 .ensures) (c .before .before .before .skip7 .ensures) (c .before .before .skip8 .ensures) (c .before .skip9 .ensures)
-    (omega (arith, c .before .before .before .before .before .before .before .before .before .before .before .before .pre .0 .axes .low, c .before .before .before .before .before .before .before .before .before .before .before .before .pre .0 .axes .high)) (c .triple .ensures)
+    given-three (c .before .before .before .before .before .before .before .before .before .before .before .before .args .n) (c .before .before .before .before .before .before .before .before .before .before .before .before .args .cells .now) (c .before .before .before .before .before .before .before .before .before .before .before .before .pre .0) (c .before .before .before .before .before .before .before .before .before .before .before .before .args .out) (c .before .before .before .before .before .before .before .before .before .before .before .before .args .i) (c .before .before .before .before .before .before .before .before .before .before .before .before .args .j) (c .before .before .before .before .before .before .before .before .before .before .before .before .pre .1 .1 .0) (c .before .before .before .before .before .before .before .before .before .before .before .before .pre .1 .1 .1) (c .before .before .before .before .before .before .before .before .before .before .before .before .pre .1 .0) (c .before .before .before .before .before .before .before .before .before .before .before .skip .ensures .0) (c .before .before .before .before .before .before .before .before .before .before .skip2 .ensures .0) (c .before .before .before .before .before .before .before .before .before .skip3 .ensures .0) (c .before .before .before .before .before .before .before .skip4 .ensures .0) (c .before .before .before .before .before .before .skip5 .ensures .0) (c .before .before .before .before .before .skip6 .ensures .0) (c .before .before .before .skip7 .ensures .0) (c .before .before .skip8 .ensures .0) (c .before .skip9 .ensures .0)
+    (omega (arith, c .before .before .before .before .before .before .before .before .before .before .before .before .pre .0 .axes .low, c .before .before .before .before .before .before .before .before .before .before .before .before .pre .0 .axes .high)) (c .three-rows .ensures)
 
 pub minor-spec : {M : Type 1} → statement M
 minor-spec =
@@ -86,10 +77,10 @@ minor-spec =
     skip-requires-4
     skip-requires-5
     skip-requires-6
-    pair-requires
+    two-rows-requires
     returns-2
     skip-requires-7
     skip-requires-8
     skip-requires-9
-    triple-requires
+    three-rows-requires
     returns-3)

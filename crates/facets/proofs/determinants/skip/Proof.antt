@@ -7,13 +7,13 @@ use Rattle.facets.proofs.determinants.skip.Statement.{statement}
 use Rattle.facets.proofs.determinants.skip.Tie as tie
 
 returns : tie.Need-returns
-returns c = sym (skip-below (c .before .args .p) (c .before .args .i) (c .if1 .taken))
+returns c = (sym (skip-below (c .before .args .p) (c .before .args .i) (c .if1 .taken)), omega arith)
 
 add-result : tie.Need-add-result
 add-result c = search needs
 
 returns-2 : tie.Need-returns-2
-returns-2 c = let e = skip-above (c .before .args .p) (c .before .args .i) (c .if1 .left) in omega arith
+returns-2 c = let e = skip-above (c .before .args .p) (c .before .args .i) (c .if1 .left) in (omega arith, omega arith)
 
 pub skip-spec : {M : Type 1} → statement M
 skip-spec = tie.close (tie.spec returns add-result returns-2)

@@ -1,4 +1,4 @@
--- `determinants::pair` meets its contract: the entries are at most 2 ^ 28 in size, so both products and their difference fit.
+-- `determinants::two_rows` meets its contract: the entries are at most 2 ^ 28 in size, so both products and their difference fit.
 use Prim.Native.Nat.{_^_}
 use mathlib.Core.Path.{sym, _∙_}
 use lib.IntN.{_*ℤ_}
@@ -9,8 +9,8 @@ use Rattle.exact.proofs.SmallDeterminants.{det-two}
 use Rattle.facets.specs.Entries.{entryAt}
 use Rattle.facets.proofs.Entries.{entry-of-two}
 use borrow.Author.Needs.{needs}
-use Rattle.facets.proofs.determinants.pair.Statement.{statement}
-use Rattle.facets.proofs.determinants.pair.Tie as tie
+use Rattle.facets.proofs.determinants.two_rows.Statement.{statement}
+use Rattle.facets.proofs.determinants.two_rows.Tie as tie
 
 entry-requires : tie.Need-entry-requires
 entry-requires c κs = search needs
@@ -54,8 +54,8 @@ sub-result c = fits-sub (left c) (right c) (lit≤ tt)
 returns : tie.Need-returns
 returns c = holds-sub (left c) (right c) (lit≤ tt) .is ∙ sym (det-two _ _ _ _)
 
-pub pair-spec : {M : Type 1} → statement M
-pair-spec =
+pub two-rows-spec : {M : Type 1} → statement M
+two-rows-spec =
     tie.close
     (tie.spec
     entry-requires
