@@ -1,5 +1,4 @@
 -- Laws that the proofs of the functions cite, a file for each idea.
 pub mod EntrySteps
-pub mod ChainSteps
 pub mod AxisTest
 pub mod TermLimit

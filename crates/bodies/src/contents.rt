@@ -38,7 +38,7 @@ fn polynomial_length_ok(n: usize, l: usize) -> bool
 
 // A body's length is right for its kind: box, polynomial or start.
 fn length_ok(n: usize, k: usize, l: usize) -> bool
-    requires { ⌜ n ≤ 3 ⌝ }
+    requires { ⌜ n ≤ 4 ⌝ }
     ensures { λ r. ⌜ r ≡ lengthOk n k l ⌝ }
 {
     if k == 0 {
@@ -52,7 +52,7 @@ fn length_ok(n: usize, k: usize, l: usize) -> bool
 
 // The first body follows the contents, each other begins where the last ended, the last ends the job.
 fn entries_ok(n: usize, s: &[u8]) -> bool
-    requires { ⌜ (n ≤ 3) × (contentsEnd n ≤ length (now s)) ⌝ }
+    requires { ⌜ (n ≤ 4) × (contentsEnd n ≤ length (now s)) ⌝ }
     ensures { λ r. ⌜ r ≡ entriesOk n (now (s .entry)) (n + 1) 0 (contentsEnd n) ⌝ }
 {
     let mut at = 4 * n + 8;
@@ -73,7 +73,7 @@ fn entries_ok(n: usize, s: &[u8]) -> bool
 
 // The contents are whole, the bodies adjacent and of the right lengths.
 pub fn contents_ok(n: usize, s: &[u8]) -> bool
-    requires { ⌜ n ≤ 3 ⌝ }
+    requires { ⌜ n ≤ 4 ⌝ }
     ensures { λ r. ⌜ r ≡ contentsOk n (now (s .entry)) ⌝ }
 {
     if s.len() < 4 * n + 8 {

@@ -1,6 +1,5 @@
-// The tests of a job's contents, box and start, refusals 5, 6 and 8 of document 01, each a test of its own.
+// The tests of a job's contents and box, refusals 5 and 6 of document 01, each a test of its own, and the limits of a dimension.
 
 pub mod boxes;
 pub mod contents;
 pub mod limits;
-pub mod places;

@@ -4,10 +4,10 @@
 ghost use mathlib.Core.Path.{_≡_};
 ghost use mathlib.Core.List.{[], _∷_};
 ghost use Prim.Native.Nat.{_+_, _≤_, _<_};
-ghost use lib.IntN.{natAbs};
 ghost use lib.ListN.{length};
 ghost use Rattle.paper.specs.Listing.{decimal, signedDecimal};
 ghost use Rattle.decimals.specs.Written.{Writes};
+use bits::read;
 
 // ---- bytes
 
@@ -54,22 +54,12 @@ pub fn put_decimal(buffer: &mut [u8], at: usize, a: u64) -> usize
     put_byte(buffer, last, digit(a % 10))
 }
 
-// The size of a number; − 1 less a number under 0 fits for every one.
-fn size(z: i64) -> u64
-    ensures { λ r. ⌜ r ≡ natAbs z ⌝ }
-{
-    if z < 0 {
-        return (-1 - z) as u64 + 1;
-    }
-    z as u64
-}
-
 // A minus sign in front of a number under 0.
 pub fn put_signed(buffer: &mut [u8], at: usize, z: i64) -> usize
     requires { ⌜ at + 21 ≤ length (now buffer) ⌝ }
     ensures { λ r. ⌜ Writes 21 (signedDecimal z) at (now (buffer .entry)) (now (buffer .exit)) r ⌝ }
 {
-    let a = size(z);
+    let a = read::size(z);
     if z < 0 {
         let b = put_byte(buffer, at, b'-');
         return put_decimal(buffer, b, a);

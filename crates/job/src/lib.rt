@@ -4,22 +4,20 @@ use bits::read;
 use bodies::boxes;
 use bodies::contents;
 use bodies::limits;
-use bodies::places;
 use paper::Opened;
 ghost use mathlib.Core.Path.{_≡_};
 ghost use mathlib.Core.Bool.{true, false};
 ghost use Prim.Native.Nat.{_+_, _-_, _≤_, _<_};
-ghost use Rattle.paper.specs.Limits.{dimensionOk};
-ghost use Rattle.paper.specs.Job.{dimension, entryOffset, body, contentsOk, allFrom, polynomialOk, openRefusal};
+ghost use Rattle.paper.specs.Job.{dimension, body, contentsOk, allFrom, polynomialOk, openRefusal};
 ghost use Rattle.paper.specs.Operations.{opened, polynomialTerms, bodyRefusal, bodyPart};
 ghost use Rattle.paper.specs.Answers.{openedAs};
-ghost use Rattle.bodies.specs.Parts.{BeginsAt};
+ghost use Rattle.bits.specs.Axes.{Axes};
 ghost use Rattle.job.specs.BodyTests.{bodiesRefusal};
 ghost use Rattle.job.specs.PartOffset.{partOffset};
 
 // Every polynomial's terms are right and rise.
 fn polynomials_ok(n: usize, job: &[u8]) -> bool
-    requires { ⌜ (n ≤ 3) × (contentsOk n (now job) ≡ true) ⌝ }
+    requires { ⌜ (n ≤ 4) × (contentsOk n (now job) ≡ true) ⌝ }
     ensures { λ r. ⌜ r ≡ allFrom (λ k. polynomialOk n (body (now (job .entry)) k)) 1 (n - 1) ⌝ }
 {
     let mut k = 1;
@@ -34,7 +32,7 @@ fn polynomials_ok(n: usize, job: &[u8]) -> bool
 
 // Open's refusals 5 to 8: contents, box, terms, start.
 fn bodies_refusal(n: usize, job: &[u8]) -> u64
-    requires { ⌜ dimensionOk n ≡ true ⌝ }
+    requires { ⌜ Axes n ⌝ }
     ensures { λ r. ⌜ r ≡ bodiesRefusal n (now (job .entry)) ⌝ }
 {
     if !contents::contents_ok(n, job) {

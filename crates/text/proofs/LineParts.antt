@@ -1,17 +1,14 @@
 -- The parts of a line as the functions write them, and the lines of document 01 put together from them.
-use mathlib.Core.Path.{_≡_, sym, ap, _∙_}
-use mathlib.Core.Logic.{_⊎_, inl, inr}
-use mathlib.Core.Bool.{true}
-use mathlib.Core.List.{List, [], _∷_, _++_, append-nil, append-assoc}
-use Prim.Native.Nat.{ℕ, _-_}
+use mathlib.Core.Path.{_≡_, refl, sym, ap, _∙_}
+use mathlib.Core.List.{List, [], _∷_, _++_, map, append-nil, append-assoc}
+use Prim.Native.Nat.{ℕ, suc, zero, _-_, _≤_}
+use native.Mathlib.Omega.{arith}
 use lib.IntN.{ℤ, pos}
 use lib.ListN.{take}
-use Rattle.paper.specs.Limits.{dimensionOk}
-use Rattle.paper.specs.Cells.{maskList, lowVertex}
 use Rattle.paper.specs.Listing.{decimal, signedDecimal, blankNumbers, numberLine, placeNumbers, placeLine}
-use Rattle.paper.proofs.Tests.{two-or-three}
 use Rattle.paper.proofs.Decimal.{blank-append}
-use Rattle.text.specs.Lines.{shownFacet}
+use Rattle.places.specs.Held.{vertexAs, masksAs, facetAs}
+use Rattle.places.specs.declared.HeldPlace.{HeldPlace}
 
 -- ---- a blank and a number
 
@@ -23,52 +20,64 @@ pub blank-mask : (m : ℕ) → 32 ∷ decimal m ≡ blankNumbers (pos m ∷ [])
 unfolding signedDecimal
 blank-mask m = blank-number (pos m)
 
--- ---- two numbers in dimension 3, one in dimension 2
+-- ---- the first of three numbers
 
-module _ (n : ℕ) {x : ℤ} (u v : ℤ) (e : x ≡ u) where
-  pub both-shown : n ≡ 3 → {y : ℤ} → y ≡ v → blankNumbers (x ∷ []) ++ blankNumbers (y ∷ []) ≡ blankNumbers (take (n - 1) (u ∷ v ∷ []))
-  both-shown h f = rw (e, f, h) (sym (blank-append (u ∷ []) (v ∷ [])))
+module _ (m : ℕ) {x : ℤ} (u v w : ℤ) (e : x ≡ u) where
+  pub one-shown : m ≡ 1 → blankNumbers (x ∷ []) ≡ blankNumbers (take m (u ∷ v ∷ w ∷ []))
+  one-shown h = rw (e, h)
 
-  pub one-shown : dimensionOk n ≡ true → (n ≡ 3 → ⊥) → blankNumbers (x ∷ []) ≡ blankNumbers (take (n - 1) (u ∷ v ∷ []))
-  one-shown d h = go (two-or-three n d)
-    where
-      go : (n ≡ 2) ⊎ (n ≡ 3) → blankNumbers (x ∷ []) ≡ blankNumbers (take (n - 1) (u ∷ v ∷ []))
-      go (inl t) = rw (e, t)
-      go (inr t) = absurd (h t)
+  module _ {y : ℤ} (f : y ≡ v) where
+    pub two-shown : m ≡ 2 → blankNumbers (x ∷ []) ++ blankNumbers (y ∷ []) ≡ blankNumbers (take m (u ∷ v ∷ w ∷ []))
+    two-shown h = rw (e, f, h) (sym (blank-append (u ∷ []) (v ∷ [])))
+
+    all-taken : (k : ℕ) → 1 ≤ k → (k ≡ 1 → ⊥) → (k ≡ 2 → ⊥) → take k (u ∷ v ∷ w ∷ []) ≡ u ∷ v ∷ w ∷ []
+    all-taken zero l g h = absurd (omega arith)
+    all-taken (suc zero) l g h = absurd (g refl)
+    all-taken (suc (suc zero)) l g h = absurd (h refl)
+    all-taken (suc (suc (suc zero))) l g h = refl
+    all-taken (suc (suc (suc (suc k)))) l g h = refl
+
+    pub three-shown : 1 ≤ m → (m ≡ 1 → ⊥) → (m ≡ 2 → ⊥) → {z : ℤ} → z ≡ w
+        → blankNumbers (x ∷ []) ++ (blankNumbers (y ∷ []) ++ blankNumbers (z ∷ [])) ≡ blankNumbers (take m (u ∷ v ∷ w ∷ []))
+    three-shown l g h i =
+        rw (e, f, i, all-taken m l g h)
+        (sym
+        (blank-append (u ∷ []) (v ∷ w ∷ [])
+        ∙ ap (λ (t : List ℕ). blankNumbers (u ∷ []) ++ t) (blank-append (v ∷ []) (w ∷ []))))
 
 -- ---- a place's line
 
--- the numbers behind the first one
-rest : ℕ → ℤ → ℤ → ℕ → ℕ → ℤ → ℤ → ℤ → List ℤ
-rest n y z m k px py pz =
-    take (n - 1) (y ∷ z ∷ []) ++ (take (n - 1) (pos m ∷ pos k ∷ []) ++ (px ∷ take (n - 1) (py ∷ pz ∷ [])))
+map-take : {A B : Type 0} (f : A → B) (k : ℕ) (l : List A) → map f (take k l) ≡ take k (map f l)
+map-take f zero l = refl
+map-take f (suc k) [] = refl
+map-take f (suc k) (x ∷ l) = ap (λ t. f x ∷ t) (map-take f k l)
 
-place-numbers : (n : ℕ) (x y z : ℤ) (m k : ℕ) (px py pz : ℤ) → (n ≡ 2) ⊎ (n ≡ 3)
-    → x ∷ rest n y z m k px py pz ≡ placeNumbers (shownFacet n x y z m k) (take n (px ∷ py ∷ pz ∷ []))
-unfolding rest placeNumbers lowVertex maskList
-place-numbers n x y z m k px py pz (inl h) = rw h
-place-numbers n x y z m k px py pz (inr h) = rw h
+module _ (p : HeldPlace) (point : List ℤ) where
+  -- the coordinates behind the first one, and the masks
+  later : ℕ → List ℤ
+  later m = take m (p .low .y ∷ p .low .z ∷ p .low .w ∷ [])
 
-rest-text : (n : ℕ) (y z : ℤ) (m k : ℕ) (px py pz : ℤ)
-    → blankNumbers (rest n y z m k px py pz)
-    ≡ blankNumbers (take (n - 1) (y ∷ z ∷ []))
-    ++ (blankNumbers (take (n - 1) (pos m ∷ pos k ∷ [])) ++ (blankNumbers (px ∷ []) ++ blankNumbers (take (n - 1) (py ∷ pz ∷ []))))
-unfolding rest
-rest-text n y z m k px py pz =
-    blank-append (take (n - 1) (y ∷ z ∷ [])) (take (n - 1) (pos m ∷ pos k ∷ []) ++ (px ∷ take (n - 1) (py ∷ pz ∷ [])))
-    ∙ ap (λ (l : List ℕ). blankNumbers (take (n - 1) (y ∷ z ∷ [])) ++ l)
-    (blank-append (take (n - 1) (pos m ∷ pos k ∷ [])) (px ∷ take (n - 1) (py ∷ pz ∷ []))
-    ∙ ap (λ (l : List ℕ). blankNumbers (take (n - 1) (pos m ∷ pos k ∷ [])) ++ l)
-    (blank-append (px ∷ []) (take (n - 1) (py ∷ pz ∷ []))))
+  masks : ℕ → List ℤ
+  masks m = take m (pos (p .mask1) ∷ pos (p .mask2) ∷ pos (p .mask3) ∷ [])
 
-pub place-text : (n : ℕ) (x y z : ℤ) (m k : ℕ) (px py pz : ℤ) → dimensionOk n ≡ true
-    → signedDecimal x
-    ++ (blankNumbers (take (n - 1) (y ∷ z ∷ []))
-    ++ (blankNumbers (take (n - 1) (pos m ∷ pos k ∷ []))
-    ++ (blankNumbers (px ∷ []) ++ (blankNumbers (take (n - 1) (py ∷ pz ∷ [])) ++ (10 ∷ [])))))
-    ≡ placeLine (shownFacet n x y z m k) (take n (px ∷ py ∷ pz ∷ []))
-unfolding placeLine numberLine
-place-text n x y z m k px py pz d =
-    ap (λ (l : List ℕ). signedDecimal x ++ l)
-    (sym (ap (λ (l : List ℕ). l ++ (10 ∷ [])) (rest-text n y z m k px py pz) ∙ simp append-assoc))
-    ∙ ap numberLine (place-numbers n x y z m k px py pz (two-or-three n d))
+  place-numbers : (n : ℕ) → 1 ≤ n → p .low .x ∷ (later (n - 1) ++ (masks (n - 1) ++ point)) ≡ placeNumbers (facetAs n p) point
+  unfolding placeNumbers facetAs vertexAs masksAs later masks
+  place-numbers zero l = absurd (omega arith)
+  place-numbers (suc m) l =
+      ap (λ (t : List ℤ). p .low .x ∷ (take m (p .low .y ∷ p .low .z ∷ p .low .w ∷ []) ++ (t ++ point)))
+      (sym (map-take pos m (p .mask1 ∷ p .mask2 ∷ p .mask3 ∷ [])))
+
+  pub place-text : (n : ℕ) → 1 ≤ n
+      → signedDecimal (p .low .x)
+      ++ (blankNumbers (take (n - 1) (p .low .y ∷ p .low .z ∷ p .low .w ∷ []))
+      ++ (blankNumbers (take (n - 1) (pos (p .mask1) ∷ pos (p .mask2) ∷ pos (p .mask3) ∷ [])) ++ (blankNumbers point ++ (10 ∷ []))))
+      ≡ placeLine (facetAs n p) point
+  unfolding placeLine numberLine later masks
+  place-text n l =
+      ap (λ (t : List ℕ). signedDecimal (p .low .x) ++ t)
+      (sym
+      (ap (λ (t : List ℕ). t ++ (10 ∷ []))
+      (blank-append (later (n - 1)) (masks (n - 1) ++ point)
+      ∙ ap (λ (t : List ℕ). blankNumbers (later (n - 1)) ++ t) (blank-append (masks (n - 1)) point))
+      ∙ simp append-assoc))
+      ∙ ap numberLine (place-numbers n l)

@@ -1,8 +1,6 @@
--- The facet that a line shows, from numbers with room for three axes.
+-- How long a line of the listing may be.
 use Prim.Native.Nat.{ℕ}
-use lib.IntN.{ℤ}
-use Rattle.curves.specs.Grid.{Facet}
-use Rattle.paper.specs.Cells.{maskList, lowVertex}
 
-abbrev pub shownFacet : ℕ → ℤ → ℤ → ℤ → ℕ → ℕ → Facet
-shownFacet n x y z mask1 mask2 = record { low = lowVertex n x y z; masks = maskList n mask1 mask2 }
+-- a place's line in four axes: four coordinates, three masks and a point of four numbers, each with its blank or the line's end
+abbrev pub lineLimit : ℕ
+lineLimit = 239

@@ -1,21 +1,23 @@
 // The listing's lines: document 01, section "The listing", written into a lent buffer.
 
 ghost use mathlib.Core.Path.{_≡_};
-ghost use mathlib.Core.Bool.{true};
 ghost use mathlib.Core.List.{[], _∷_};
-ghost use Prim.Native.Nat.{_+_, _-_, _≤_};
+ghost use Prim.Native.Nat.{_+_, _≤_};
 ghost use lib.IntN.{pos};
 ghost use lib.ListN.{length, take};
-ghost use Rattle.paper.specs.Limits.{dimensionOk};
 ghost use Rattle.paper.specs.Answers.{verdictAs};
 ghost use Rattle.paper.specs.Listing.{blankNumbers, verdictWord, refusedLine, firstLine, placeLine};
 ghost use Rattle.decimals.specs.Written.{Writes};
-ghost use Rattle.text.specs.Lines.{shownFacet};
+ghost use Rattle.bits.specs.Axes.{Axes};
+ghost use Rattle.places.specs.Held.{facetAs};
+ghost use Rattle.text.specs.Lines.{lineLimit};
 use decimals::put_byte;
 use decimals::put_decimal;
 use decimals::put_signed;
 use decimals::put_word;
+use paper::StepPoint;
 use paper::Verdict;
+use places::HeldPlace;
 
 // A blank and a number.
 fn put_next(buffer: &mut [u8], at: usize, z: i64) -> usize
@@ -37,28 +39,36 @@ fn put_mask(buffer: &mut [u8], at: usize, mask: u64) -> usize
 
 // ---- parts of a place's line
 
-// The coordinates on the axes from 2 to n.
-fn put_later(buffer: &mut [u8], at: usize, n: usize, y: i64, z: i64) -> usize
-    requires { ⌜ (dimensionOk n ≡ true) × (at + 44 ≤ length (now buffer)) ⌝ }
-    ensures { λ r. ⌜ Writes 44 (blankNumbers (take (n - 1) (y ∷ z ∷ []))) at (now (buffer .entry)) (now (buffer .exit)) r ⌝ }
+// The first m of three numbers.
+fn put_numbers(buffer: &mut [u8], at: usize, m: usize, u: i64, v: i64, w: i64) -> usize
+    requires { ⌜ (1 ≤ m) × (at + 66 ≤ length (now buffer)) ⌝ }
+    ensures { λ r. ⌜ Writes 66 (blankNumbers (take m (u ∷ v ∷ w ∷ []))) at (now (buffer .entry)) (now (buffer .exit)) r ⌝ }
 {
-    let a = put_next(buffer, at, y);
-    if n == 3 {
-        return put_next(buffer, a, z);
+    let a = put_next(buffer, at, u);
+    if m == 1 {
+        return a;
     }
-    a
+    let b = put_next(buffer, a, v);
+    if m == 2 {
+        return b;
+    }
+    put_next(buffer, b, w)
 }
 
-// The n − 1 masks.
-fn put_masks(buffer: &mut [u8], at: usize, n: usize, mask1: u64, mask2: u64) -> usize
-    requires { ⌜ (dimensionOk n ≡ true) × (at + 42 ≤ length (now buffer)) ⌝ }
-    ensures { λ r. ⌜ Writes 42 (blankNumbers (take (n - 1) (pos mask1 ∷ pos mask2 ∷ []))) at (now (buffer .entry)) (now (buffer .exit)) r ⌝ }
+// The first m of three masks.
+fn put_masks(buffer: &mut [u8], at: usize, m: usize, mask1: u64, mask2: u64, mask3: u64) -> usize
+    requires { ⌜ (1 ≤ m) × (at + 63 ≤ length (now buffer)) ⌝ }
+    ensures { λ r. ⌜ Writes 63 (blankNumbers (take m (pos mask1 ∷ pos mask2 ∷ pos mask3 ∷ []))) at (now (buffer .entry)) (now (buffer .exit)) r ⌝ }
 {
     let a = put_mask(buffer, at, mask1);
-    if n == 3 {
-        return put_mask(buffer, a, mask2);
+    if m == 1 {
+        return a;
     }
-    a
+    let b = put_mask(buffer, a, mask2);
+    if m == 2 {
+        return b;
+    }
+    put_mask(buffer, b, mask3)
 }
 
 fn put_verdict(buffer: &mut [u8], at: usize, v: Verdict) -> usize
@@ -98,27 +108,15 @@ pub fn put_first(buffer: &mut [u8], at: usize, n: u64, v: Verdict, count: u64) -
     put_byte(buffer, e, b'\n')
 }
 
-// Lowest vertex, masks, point in steps: the first n coordinates of each and the first n − 1 masks.
-pub fn put_place(
-    buffer: &mut [u8],
-    at: usize,
-    n: usize,
-    x: i64,
-    y: i64,
-    z: i64,
-    mask1: u64,
-    mask2: u64,
-    px: i64,
-    py: i64,
-    pz: i64,
-) -> usize
-    requires { ⌜ (dimensionOk n ≡ true) × (at + 174 ≤ length (now buffer)) ⌝ }
-    ensures { λ r. ⌜ Writes 174 (placeLine (shownFacet n x y z mask1 mask2) (take n (px ∷ py ∷ pz ∷ []))) at (now (buffer .entry)) (now (buffer .exit)) r ⌝ }
+// Lowest vertex, masks, point in steps: the numbers of each that count.
+pub fn put_place(buffer: &mut [u8], at: usize, n: usize, p: HeldPlace, q: StepPoint) -> usize
+    requires { ⌜ (Axes n) × (at + lineLimit ≤ length (now buffer)) ⌝ }
+    ensures { λ r. ⌜ Writes lineLimit (placeLine (facetAs n p) (take n (q .x ∷ q .y ∷ q .z ∷ []))) at (now (buffer .entry)) (now (buffer .exit)) r ⌝ }
 {
-    let a = put_signed(buffer, at, x);
-    let b = put_later(buffer, a, n, y, z);
-    let c = put_masks(buffer, b, n, mask1, mask2);
-    let d = put_next(buffer, c, px);
-    let e = put_later(buffer, d, n, py, pz);
-    put_byte(buffer, e, b'\n')
+    let low = p.low;
+    let a = put_signed(buffer, at, low.x);
+    let b = put_numbers(buffer, a, n - 1, low.y, low.z, low.w);
+    let c = put_masks(buffer, b, n - 1, p.mask1, p.mask2, p.mask3);
+    let d = put_numbers(buffer, c, n, q.x, q.y, q.z);
+    put_byte(buffer, d, b'\n')
 }

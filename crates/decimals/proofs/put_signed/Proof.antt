@@ -1,7 +1,7 @@
 -- `put_signed` meets its contract: the sign decides whether a minus stands in front of the size.
 use native.Mathlib.Omega.{arith}
 use Rattle.decimals.proofs.WrittenParts.{writes-then, writes-as}
-use Rattle.decimals.proofs.SignedSize.{text-under, text-from}
+use Rattle.decimals.proofs.SignedText.{text-under, text-from}
 use borrow.Author.Needs.{needs}
 use Rattle.decimals.proofs.put_signed.Statement.{statement}
 use Rattle.decimals.proofs.put_signed.Tie as tie

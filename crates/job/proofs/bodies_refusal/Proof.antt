@@ -7,7 +7,6 @@ use native.Mathlib.Omega.{arith}
 use lib.ListN.{length}
 use Rattle.curves.specs.Grid.{placeOk}
 use Rattle.paper.specs.Job.{contentsOk, body, boxOk, decodePlace}
-use Rattle.paper.proofs.Tests.{dimension-range}
 use Rattle.paper.proofs.Bodies.{contents-box-length, contents-start-length}
 use Rattle.job.specs.BodyTests.{bodiesRefusal, startRefusal}
 use Rattle.paper.proofs.RangeSteps.{test-failed, test-passed}
@@ -48,7 +47,7 @@ start-test c = c .place-ok .ensures ∙ ap (startOk (c .before .before .before .
 -- ---- the needs
 
 contents-ok-requires : tie.Need-contents-ok-requires
-contents-ok-requires c κs = dimension-range _ (c .before .pre) .high
+contents-ok-requires c κs = c .before .pre .high
 
 returns : tie.Need-returns
 returns c = refuse-contents _ _ (test-failed (c .before .contents-ok .ensures) (c .if1 .taken))
@@ -63,7 +62,7 @@ returns-2 : tie.Need-returns-2
 returns-2 c = refuse-box _ _ (contents-right (c .before .before .before)) (test-failed (box-test (c .before)) (c .if2 .taken))
 
 polynomials-ok-requires : tie.Need-polynomials-ok-requires
-polynomials-ok-requires c κs = (dimension-range _ (c .before .before .before .before .before .before .pre) .high, contents-right (c .before .before .before))
+polynomials-ok-requires c κs = (c .before .before .before .before .before .before .pre .high, contents-right (c .before .before .before))
 
 returns-3 : tie.Need-returns-3
 returns-3 c =
@@ -77,8 +76,8 @@ place-ok-requires : tie.Need-place-ok-requires
 place-ok-requires c κs =
     let start = c .before .before .before .before .before .before .before .before .before in (
       start .pre,
-      ap length (c .part-of2 .ensures .1)
-          ∙ contents-start-length _ _ (contents-right (c .before .before .before .before .before .before)) (omega (arith, dimension-range _ (start .pre) .low)),
+      ap length (c .part-of2 .ensures)
+          ∙ contents-start-length _ _ (contents-right (c .before .before .before .before .before .before)) (omega (arith, start .pre .low)),
     )
 
 returns-4 : tie.Need-returns-4

@@ -4,6 +4,7 @@ use mathlib.Core.Bool.{true}
 use borrow.Author.Needs.{needs}
 use Rattle.paper.specs.Limits.{dimensionOk}
 use Rattle.paper.proofs.RangeSteps.{test-failed, test-passed}
+use Rattle.bits.proofs.EachDimension.{dimension-axes}
 use Rattle.job.proofs.OpenSteps.{HeadRight, refuse-short, refuse-mark, refuse-nought, refuse-dimension, refuse-count, head-passes}
 use Rattle.job.proofs.open_refusal.Statement.{statement}
 use Rattle.job.proofs.open_refusal.Tie as tie
@@ -59,7 +60,7 @@ returns-5 : tie.Need-returns-5
 returns-5 c = refuse-count (head (c .before .before .before .before)) (dimension-right (c .before .before)) (c .before .byte4 .ensures .is) (c .if5 .taken)
 
 bodies-refusal-requires : tie.Need-bodies-refusal-requires
-bodies-refusal-requires c κs = dimension-right (c .before .before)
+bodies-refusal-requires c κs = dimension-axes _ (dimension-right (c .before .before))
 
 returns-6 : tie.Need-returns-6
 returns-6 c =

@@ -1,38 +1,56 @@
--- `put_masks` meets its contract: two masks in dimension 3, one in dimension 2.
-use mathlib.Core.Path.{refl}
-use native.Mathlib.Omega.{arith}
-use lib.IntN.{pos}
-use Rattle.decimals.proofs.WrittenParts.{writes-then, writes-as}
-use Rattle.text.proofs.LineParts.{both-shown, one-shown}
 use borrow.Author.Needs.{needs}
 use Rattle.text.proofs.put_masks.Statement.{statement}
 use Rattle.text.proofs.put_masks.Tie as tie
+use Rattle.text.proofs.put_masks.Reads as reads
+use Rattle.text.proofs.put_masks.Lts as lts
+use Rattle.text.proofs.put_mask.Reads as put-mask-reads
 
+-- src/lib.rt:63:9
 put-mask-requires : tie.Need-put-mask-requires
 put-mask-requires c κs = search needs
 
-put-mask-requires-2 : tie.Need-put-mask-requires-2
-put-mask-requires-2 c κs = search needs
-
+-- src/lib.rt:65:9
 same-length : tie.Need-same-length
 same-length c = search needs
 
+-- src/lib.rt:65:9
 returns : tie.Need-returns
-returns c =
-    let s = c .before .before .before .before .before .before .before .before .before .before in
-    writes-as (both-shown (s .args .n) (pos (s .args .mask1)) (pos (s .args .mask2)) refl (c .before .before .before .before .if1 .taken) refl) (omega arith)
-    (writes-then (omega arith) (c .before .before .before .before .before .before .before .put-mask .ensures) (λ i. c .before .before .put-mask2 .ensures))
+returns c = ?
 
+-- src/lib.rt:67:9
+put-mask-requires-2 : tie.Need-put-mask-requires-2
+put-mask-requires-2 c κs = search needs
+
+-- src/lib.rt:69:9
 same-length-2 : tie.Need-same-length-2
 same-length-2 c = search needs
 
+-- src/lib.rt:69:9
 returns-2 : tie.Need-returns-2
-returns-2 c =
-    let s = c .before .before .before .before .before .before in
-    writes-as (one-shown (s .args .n) (pos (s .args .mask1)) (pos (s .args .mask2)) refl (s .pre .0) (c .if1 .left)) (omega arith)
-    (c .before .before .before .put-mask .ensures)
+returns-2 c = ?
+
+-- src/lib.rt:71:5
+put-mask-requires-3 : tie.Need-put-mask-requires-3
+put-mask-requires-3 c κs = search needs
+
+-- src/lib.rt:59:1
+same-length-3 : tie.Need-same-length-3
+same-length-3 c = search needs
+
+-- src/lib.rt:59:1
+returns-3 : tie.Need-returns-3
+returns-3 c = ?
 
 pub put-masks-spec : {M : Type 1} → statement M
 put-masks-spec =
     tie.close
-    (tie.spec put-mask-requires put-mask-requires-2 same-length returns same-length-2 returns-2)
+    (tie.spec
+    put-mask-requires
+    same-length
+    returns
+    put-mask-requires-2
+    same-length-2
+    returns-2
+    put-mask-requires-3
+    same-length-3
+    returns-3)

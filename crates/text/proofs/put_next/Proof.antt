@@ -5,7 +5,7 @@ use native.Mathlib.Omega.{arith}
 use lib.IntN.{ℤ}
 use Rattle.paper.specs.Listing.{signedDecimal}
 use Rattle.decimals.proofs.WrittenParts.{writes-then, writes-as}
-use Rattle.decimals.proofs.SignedSize.{bits-are}
+use Rattle.bits.proofs.SignedBits.{bits-are}
 use Rattle.text.proofs.LineParts.{blank-number}
 use borrow.Author.Needs.{needs}
 use Rattle.text.proofs.put_next.Statement.{statement}

@@ -10,7 +10,7 @@ use Rattle.bodies.proofs.contents.entries_ok.Tie as tie
 
 abbrev Inv-loop : tie.InvT-loop
 Inv-loop n s at₀ k₀ at k =
-    (at ≤ 65536 * k + 20) × (entriesOk n s (n + 1) 0 (contentsEnd n) ≡ entriesOk n s (n + 1 - k) k at)
+    (at ≤ 65536 * k + 24) × (entriesOk n s (n + 1) 0 (contentsEnd n) ≡ entriesOk n s (n + 1 - k) k at)
 
 abbrev μ-loop : tie.MeasureT-loop
 μ-loop n s at₀ k₀ at k = n + 1 - k
