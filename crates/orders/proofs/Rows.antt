@@ -1,5 +1,5 @@
 -- Every row of the table is an order of its axes, and the constant arrays of the code have the table's entries and the masks of its vertices.
-use Prim.Native.Nat.{ℕ, suc, _+_, _*_, _≤_, _<_}
+use Prim.Native.Nat.{ℕ, _+_, _*_, _≤_, _<_}
 use mathlib.Core.Path.{_≡_, refl, sym, ap₂, _∙_}
 use mathlib.Core.Bool.{Bool, true, cond, _||_}
 use mathlib.Core.List.{List, [], _∷_, map}
@@ -10,10 +10,9 @@ use borrow.Author.Tests.{eqb-true, ltb-true, lt-leb, eq-eqb, ne-eqb}
 use Rattle.curves.specs.Grid.{Vertex, plus, vertices, orders, isOrder, absent, distinct, under, masksFrom, sameMasks}
 use Rattle.curves.proofs.OrderTests.{order-length, order-distinct}
 use Rattle.curves.proofs.SameFacet.{sameMasks-sound}
-use Rattle.curves.proofs.Vertices.{vertices-masks}
-use Rattle.curves.proofs.Vertices.{plus-zero}
+use Rattle.curves.proofs.Vertices.{plus-zero, vertices-masks}
 use Rattle.paper.specs.Job.{allFrom}
-use Rattle.orders.specs.Table.{orderAt, axisAt, vertexMask, InTable}
+use Rattle.orders.specs.Table.{orderAt, axisAt, vertexMask, InTable, AxisIs}
 use Rattle.orders.proofs.Tested.{passes}
 
 -- ---- orders
@@ -36,6 +35,9 @@ axisUnder n row k = ltb (axisAt n row k) n
 pub axis-under : (n row k : ℕ) → InTable n row → k < n → axisAt n row k < n
 unfolding axisUnder axisAt orderAt orders allFrom
 axis-under n row k h l = ltb-true (axisAt n row k) n (passes axisUnder refl refl refl n row k h (omega arith))
+
+pub axis-is : (n row k : ℕ) → InTable n row → k < n → {r : ℕ} → r ≡ axisAt n row k → AxisIs n row k r
+axis-is n row k h l e = record { is = e; under = rw e (axis-under n row k h l) }
 
 -- ---- the arrays of the code
 
@@ -64,10 +66,6 @@ mask n row k = cond (eqb n 2) (getD masks2 (3 * row + k) 0) (getD masks3 (4 * ro
 sameMask : ℕ → ℕ → ℕ → Bool
 sameMask n row k = eqb (mask n row k) (vertexMask (orderAt n row) k)
 
--- a mask has no bit above the fourth
-maskUnder : ℕ → ℕ → ℕ → Bool
-maskUnder n row k = ltb (vertexMask (orderAt n row) k) 16
-
 module _ (n row k : ℕ) (h : InTable n row) where
   entry-is : k < n → entry n row k ≡ axisAt n row k
   unfolding sameEntry entry axisAt orderAt orders allFrom
@@ -85,10 +83,6 @@ module _ (n row k : ℕ) (h : InTable n row) where
   mask-is : k ≤ n → mask n row k ≡ vertexMask (orderAt n row) k
   unfolding sameMask mask vertexMask masksFrom orderAt orders allFrom
   mask-is l = eqb-true (mask n row k) (vertexMask (orderAt n row) k) (passes sameMask refl refl refl n row k h l)
-
-  pub mask-under : k ≤ n → vertexMask (orderAt n row) k < 16
-  unfolding maskUnder vertexMask masksFrom orderAt orders allFrom
-  mask-under l = ltb-true (vertexMask (orderAt n row) k) 16 (passes maskUnder refl refl refl n row k h l)
 
   pub mask-two : k ≤ n → n ≡ 2 → getD masks2 (3 * row + k) 0 ≡ vertexMask (orderAt n row) k
   unfolding mask

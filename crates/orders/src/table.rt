@@ -13,7 +13,39 @@ const ORDERS3: [u8; 18] = [0, 1, 2, 0, 2, 1, 1, 0, 2, 1, 2, 0, 2, 0, 1, 2, 1, 0]
 
 const MASKS2: [u8; 6] = [0, 1, 3, 0, 2, 3];
 
-const MASKS3: [u8; 24] = [0, 1, 3, 7, 0, 1, 5, 7, 0, 2, 3, 7, 0, 2, 6, 7, 0, 4, 5, 7, 0, 4, 6, 7];
+const MASKS3: [u8; 24] = [
+    0,
+    1,
+    3,
+    7,
+    0,
+    1,
+    5,
+    7,
+    0,
+    2,
+    3,
+    7,
+    0,
+    2,
+    6,
+    7,
+    0,
+    4,
+    5,
+    7,
+    0,
+    4,
+    6,
+    7,
+];
+
+// A byte of a table as a number.
+fn wide(x: u8) -> u64
+    ensures { λ r. ⌜ r ≡ x ⌝ }
+{
+    x as u64
+}
 
 // The rows of the table for n axes; for four it has none.
 pub fn rows(n: usize) -> usize
@@ -35,9 +67,9 @@ pub fn axis(n: usize, row: usize, k: usize) -> u64
     ensures { λ r. ⌜ AxisIs n row k r ⌝ }
 {
     if n == 2 {
-        return ORDERS2[2 * row + k] as u64;
+        return wide(ORDERS2[2 * row + k]);
     }
-    ORDERS3[3 * row + k] as u64
+    wide(ORDERS3[3 * row + k])
 }
 
 // The mask of vertex k, its difference from the corner; 0 behind the last.
@@ -49,7 +81,7 @@ pub fn vertex_mask(n: usize, row: usize, k: usize) -> u64
         return 0;
     }
     if n == 2 {
-        return MASKS2[3 * row + k] as u64;
+        return wide(MASKS2[3 * row + k]);
     }
-    MASKS3[4 * row + k] as u64
+    wide(MASKS3[4 * row + k])
 }

@@ -1,10 +1,11 @@
 -- `table::vertex_mask` meets its contract: the arrays have the masks of the table's vertices (`mask-two`, `mask-three`).
 use Prim.Native.Nat.{_<_}
-use mathlib.Core.Path.{_≡_, sym}
+use mathlib.Core.Path.{_≡_, sym, _∙_}
 use native.Mathlib.Omega.{arith}
+use borrow.Author.Needs.{needs}
 use Rattle.orders.specs.Table.{orderAt}
 use Rattle.orders.proofs.Tested.{rows-two, rows-three, not-two}
-use Rattle.orders.proofs.Rows.{row-length, mask-two, mask-three, mask-under}
+use Rattle.orders.proofs.Rows.{row-length, mask-two, mask-three}
 use Rattle.orders.proofs.VertexMasks.{vertexMask-none}
 use Rattle.orders.proofs.table.vertex_mask.Statement.{statement}
 use Rattle.orders.proofs.table.vertex_mask.Tie as tie
@@ -20,70 +21,55 @@ row-three : (c : tie.Else2) → c .before .before .args .row < 6
 row-three c = rows-three (c .before .before .args .n) (c .before .before .args .row) (c .before .before .pre) (c .if2 .left)
 
 returns : tie.Need-returns
-returns c = sym (vertexMask-none (orderAt (c .before .args .n) (c .before .args .row)) (c .before .args .k) (omega (arith, c .if1 .taken, row-length (c .before .args .n) (c .before .args .row) (c .before .pre))))
+returns c =
+    sym
+    (vertexMask-none (orderAt (c .before .args .n) (c .before .args .row)) (c .before .args .k)
+    (omega (arith, c .if1 .taken, row-length (c .before .args .n) (c .before .args .row) (c .before .pre))))
 
-mul-result : tie.Need-mul-result
-mul-result c = omega (arith, row-two c)
+mul-wide : tie.Need-mul-wide
+mul-wide c = omega (arith, row-two c)
 
-add-result : tie.Need-add-result
-add-result c = omega (arith, row-two c)
+add-wide : tie.Need-add-wide
+add-wide c = omega (arith, row-two c, c .before .if1 .left)
 
-array-read-result : tie.Need-array-read-result
-array-read-result c = omega (arith, row-two c)
+array-read-wide : tie.Need-array-read-wide
+array-read-wide c = omega (arith, row-two c, c .before .if1 .left)
 
-cast-result : tie.Need-cast-result
-cast-result c =
-    record {
-      fits =
-          omega (
-            arith,
-            c .before .before .pre .axes .high,
-            mask-two (c .before .before .args .n) (c .before .before .args .row) (c .before .before .args .k) (c .before .before .pre) (c .before .if1 .left) (c .if2 .taken),
-            mask-under (c .before .before .args .n) (c .before .before .args .row) (c .before .before .args .k) (c .before .before .pre) (c .before .if1 .left),
-          );
-    }
+wide-requires : tie.Need-wide-requires
+wide-requires c κs = search needs
 
 returns-2 : tie.Need-returns-2
 returns-2 c =
-    mask-two (c .before .before .args .n) (c .before .before .args .row) (c .before .before .args .k) (c .before .before .pre) (c .before .if1 .left) (c .if2 .taken)
+    c .wide .ensures ∙ mask-two (c .before .before .before .args .n) (c .before .before .before .args .row) (c .before .before .before .args .k) (c .before .before .before .pre) (c .before .before .if1 .left) (c .before .if2 .taken)
 
-mul-result-2 : tie.Need-mul-result-2
-mul-result-2 c = omega (arith, row-three c)
+mul-wide-2 : tie.Need-mul-wide-2
+mul-wide-2 c = omega (arith, row-three c)
 
-add-result-2 : tie.Need-add-result-2
-add-result-2 c = omega (arith, row-three c, is-three c)
+add-wide-2 : tie.Need-add-wide-2
+add-wide-2 c = omega (arith, row-three c, is-three c, c .before .if1 .left)
 
-array-read-result-2 : tie.Need-array-read-result-2
-array-read-result-2 c = omega (arith, row-three c, is-three c)
+array-read-wide-2 : tie.Need-array-read-wide-2
+array-read-wide-2 c = omega (arith, row-three c, is-three c, c .before .if1 .left)
 
-cast-result-2 : tie.Need-cast-result-2
-cast-result-2 c =
-    record {
-      fits =
-          omega (
-            arith,
-            c .before .before .pre .axes .high,
-            mask-three (c .before .before .args .n) (c .before .before .args .row) (c .before .before .args .k) (c .before .before .pre) (c .before .if1 .left) (c .if2 .left),
-            mask-under (c .before .before .args .n) (c .before .before .args .row) (c .before .before .args .k) (c .before .before .pre) (c .before .if1 .left),
-          );
-    }
+wide-requires-2 : tie.Need-wide-requires-2
+wide-requires-2 c κs = search needs
 
 returns-3 : tie.Need-returns-3
 returns-3 c =
-    mask-three (c .before .before .args .n) (c .before .before .args .row) (c .before .before .args .k) (c .before .before .pre) (c .before .if1 .left) (c .if2 .left)
+    c .wide2 .ensures ∙ mask-three (c .before .before .before .args .n) (c .before .before .before .args .row) (c .before .before .before .args .k) (c .before .before .before .pre) (c .before .before .if1 .left) (c .before .if2 .left)
 
 pub vertex-mask-spec : {M : Type 1} → statement M
 vertex-mask-spec =
     tie.close
     (tie.spec
     returns
-    mul-result
-    add-result
-    array-read-result
-    cast-result
+    mul-wide
+    add-wide
+    array-read-wide
+    wide-requires
     returns-2
-    mul-result-2
-    add-result-2
-    array-read-result-2
-    cast-result-2
+    mul-wide-2
+    add-wide-2
+    array-read-wide-2
+    wide-requires-2
     returns-3)
