@@ -12,26 +12,24 @@ use mir.Syntax.{w64}
 use mir.Val.{SFits}
 use mir.ValLaws.{toZ-ofZ}
 use borrow.Author.Tests.{ne-eqb}
-use Rattle.exact.specs.Size.{Size}
+use Rattle.exact.specs.Size.{Size, Is}
 use Rattle.exact.proofs.Bits.{back, holds-call}
 use Rattle.paper.specs.Limits.{coordinateLimit}
 use Rattle.paper.specs.Job.{boxOk, lowEnd, highEnd}
 use Rattle.paper.specs.Values.{insideFrom}
 use Rattle.paper.proofs.Tests.{and-left, and-right}
 use Rattle.paper.proofs.Terms.{box-axis, between-size}
-use Rattle.bits.specs.Read.{SignedReads}
 use Rattle.bits.specs.Axes.{Axes}
 use Rattle.bits.proofs.EachDimension.{each-axes}
 use Rattle.places.specs.declared.Vertex.{Vertex}
 use Rattle.places.specs.Held.{vertexAs}
 use Rattle.values.specs.Box.{axisInside, Near}
-use Rattle.values.proofs.SignedNumber.{read-is}
 
 -- ---- one axis
 
 -- an end as it is read, in 64 bits
-pub end-number : {l r : ℤ} → SignedReads 32768 l r → back r ≡ l
-end-number h = holds-call (read-is h) (lit≤ tt) .is
+pub end-number : {l r : ℤ} → Is 32768 l r → back r ≡ l
+end-number h = holds-call h (lit≤ tt) .is
 
 pub axis-from : (b : List ℕ) (a : ℕ) (x y l h : ℤ) → y ≡ x → l ≡ lowEnd b a → h ≡ highEnd b a → leZ l y ≡ true → leZ y h ≡ axisInside b a x
 unfolding axisInside
