@@ -83,7 +83,7 @@ module _ {n : ℕ} {s : List ℕ} (j : JobOf n s) (v : Vertex) where
 
 module _ {n : ℕ} {s : List ℕ} (j : JobOf n s) {v : Vertex} {i : ℕ} {before cells : List ℤ} (k : ℕ) (g : Putting s n v i before k cells) where
   -- a sum is not readable
-  pub putting-fails : {r : Bool} {after : List ℤ} → k + 1 < n → ValuePut s n v (k + 1) (3 * i + k) cells r after → r ≡ false
+  pub putting-fails : {at : ℕ} {r : Bool} {after : List ℤ} → k + 1 < n → ValuePut s n v (k + 1) at cells r after → r ≡ false
       → ValuesPut s n v i before false after
   unfolding sum-at
   putting-fails l h e =

@@ -34,7 +34,7 @@ pub record PowersOf (x : ℤ) (p : List ℤ) : Type 0 where
   pub count : length p ≡ 5
   pub power-at : (e : ℕ) → e ≤ degreeLimit → Is (coordinateLimit ^ e) (power x e) (getD p e 0ℤ)
 
--- the powers of the table's own entry 1
+-- entry 1 of a table: the coordinate that it has the powers of
 unfoldable pub base : List ℤ → ℤ
 base p = getD p 1 0ℤ
 

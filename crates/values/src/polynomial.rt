@@ -79,14 +79,7 @@ fn term_value(
 }
 
 // The exact sum of the polynomial at the vertex of the tables, first term to last.
-pub fn sum_of(
-    body: &[u8],
-    n: usize,
-    px: &[i64; 5],
-    py: &[i64; 5],
-    pz: &[i64; 5],
-    pw: &[i64; 5],
-) -> i64
+fn sum_of(body: &[u8], n: usize, px: &[i64; 5], py: &[i64; 5], pz: &[i64; 5], pw: &[i64; 5]) -> i64
     requires { ⌜ Polynomial n (now body) ⌝ }
     requires { ⌜ Tables n (now px) (now py) (now pz) (now pw) ⌝ }
     ensures { λ r. ⌜ Is sumLimit (rawSum (now (body .entry)) (tabled n (now (px .entry)) (now (py .entry)) (now (pz .entry)) (now (pw .entry)))) r ⌝ }
