@@ -8,10 +8,11 @@ use paper::Opened;
 ghost use mathlib.Core.Path.{_≡_};
 ghost use mathlib.Core.Bool.{true, false};
 ghost use Prim.Native.Nat.{_+_, _-_, _≤_, _<_};
-ghost use Rattle.paper.specs.Job.{dimension, body, contentsOk, allFrom, polynomialOk, openRefusal};
+ghost use Rattle.paper.specs.Job.{dimension, entryOffset, body, contentsOk, allFrom, polynomialOk, openRefusal};
 ghost use Rattle.paper.specs.Operations.{opened, polynomialTerms, bodyRefusal, bodyPart};
 ghost use Rattle.paper.specs.Answers.{openedAs};
 ghost use Rattle.bits.specs.Axes.{Axes};
+ghost use Rattle.bodies.specs.Parts.{BeginsAt};
 ghost use Rattle.job.specs.BodyTests.{bodiesRefusal};
 ghost use Rattle.job.specs.PartOffset.{partOffset};
 

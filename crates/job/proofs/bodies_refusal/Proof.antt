@@ -76,7 +76,7 @@ place-ok-requires : tie.Need-place-ok-requires
 place-ok-requires c κs =
     let start = c .before .before .before .before .before .before .before .before .before in (
       start .pre,
-      ap length (c .part-of2 .ensures)
+      ap length (c .part-of2 .ensures .1)
           ∙ contents-start-length _ _ (contents-right (c .before .before .before .before .before .before)) (omega (arith, start .pre .low)),
     )
 

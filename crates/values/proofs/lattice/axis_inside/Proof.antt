@@ -2,7 +2,6 @@
 use mir.Syntax.{w64}
 use mir.ValLaws.{toZ-ofZ}
 use Rattle.paper.specs.Job.{lowEnd, highEnd}
-use Rattle.values.proofs.SignedNumber.{read-is}
 use Rattle.values.proofs.Inside.{end-number, axis-from, axis-under}
 use borrow.Author.Needs.{needs}
 use Rattle.values.proofs.lattice.axis_inside.Statement.{statement}
@@ -26,13 +25,13 @@ signed-word-requires-2 c κs = search needs
 returns : tie.Need-returns
 unfolding lowEnd highEnd
 returns c =
-    axis-from _ _ _ _ _ _ (toZ-ofZ w64 _ (c .before .before .before .before .fits .x)) (end-number (read-is (c .before .before .signed-word .ensures))) (end-number (read-is (c .signed-word2 .ensures)))
+    axis-from _ _ _ _ _ _ (toZ-ofZ w64 _ (c .before .before .before .before .fits .x)) (end-number (c .before .before .signed-word .ensures)) (end-number (c .signed-word2 .ensures))
     (c .before .if1 .taken)
 
 returns-2 : tie.Need-returns-2
 unfolding lowEnd
 returns-2 c =
-    axis-under _ _ _ _ _ (toZ-ofZ w64 _ (c .before .before .before .fits .x)) (end-number (read-is (c .before .signed-word .ensures))) (c .if1 .left)
+    axis-under _ _ _ _ _ (toZ-ofZ w64 _ (c .before .before .before .fits .x)) (end-number (c .before .signed-word .ensures)) (c .if1 .left)
 
 pub axis-inside-spec : {M : Type 1} → statement M
 axis-inside-spec =
