@@ -28,16 +28,18 @@ skip-rises o out i l u =
     let whole : skip out 0 + (skip out i - skip out 0) ≡ skip out i = omega (arith, skip-from out i) in
     rw whole at (vertexMask-rises o (skip out 0) (skip out i - skip out 0) (omega (arith, whole, skip-le (length o) out i l u)))
 
+-- the masks, of which the first n − 1 count
+abbrev pub facetMasks : ℕ → ℕ → ℕ → List ℕ
+facetMasks n row out = facetMask n row out 1 ∷ facetMask n row out 2 ∷ facetMask n row out 3 ∷ []
+
 rightMasks : ℕ → ℕ → ℕ → Bool
-rightMasks n row out =
-    sameMasks (masksAt n row out) (take (n - 1) (facetMask n row out 1 ∷ facetMask n row out 2 ∷ facetMask n row out 3 ∷ []))
+rightMasks n row out = sameMasks (masksAt n row out) (take (n - 1) (facetMasks n row out))
 
 module _ (n row out : ℕ) (h : InTable n row) (l : out ≤ n) where
-  pub masks-are : masksAt n row out ≡ take (n - 1) (facetMask n row out 1 ∷ facetMask n row out 2 ∷ facetMask n row out 3 ∷ [])
+  pub masks-are : masksAt n row out ≡ take (n - 1) (facetMasks n row out)
   unfolding rightMasks facetMask skip vertexMask masksAt orderAt orders placeAt masksFrom remove sameMasks allFrom
   masks-are =
-      sameMasks-sound (masksAt n row out) (take (n - 1) (facetMask n row out 1 ∷ facetMask n row out 2 ∷ facetMask n row out 3 ∷ []))
-      (passes rightMasks refl refl refl n row out h l)
+      sameMasks-sound (masksAt n row out) (take (n - 1) (facetMasks n row out)) (passes rightMasks refl refl refl n row out h l)
 
   pub no-mask : (i : ℕ) → n ≤ i → 0 ≡ facetMask n row out i
   unfolding facetMask

@@ -1,6 +1,7 @@
 -- Laws that the proofs of the functions cite, a file for each idea.
 pub mod Tested
 pub mod Rows
+pub mod RowVertices
 pub mod VertexMasks
 pub mod FacetMasks
 pub mod FacetSides

@@ -8,7 +8,7 @@ use native.Mathlib.Omega.{arith}
 use native.Mathlib.Nat.{not-suc-le-zero}
 use lib.IntN.{ℤ, negsuc, _+ℤ_}
 use lib.ListN.{length, getD, take, drop}
-use lib.Seq.{getD-drop}
+use lib.Seq.{getD-take, getD-drop}
 use lib.Dec.{ltb, lit≤}
 use borrow.Author.Tests.{ltb-true, ltb-false}
 use mir.Syntax.{w64}
@@ -192,14 +192,18 @@ module _ (n row : ℕ) (h : InTable n row) (v : Vertex) (i : ℕ) (r : Vertex) w
   pub low-rest : LowIs v (orderAt n row) i r → drop n (vertexAs 4 r) ≡ drop n (vertexAs 4 v)
   low-rest c = ap (drop n) (c .is 4) ∙ drop-low n (vertexAs 4 v) (orderAt n row) i first-under
 
+first-coordinates : (n : ℕ) (r : Vertex) (k : ℕ) → k < n → getD (vertexAs n r) k 0ℤ ≡ getD (vertexAs 4 r) k 0ℤ
+unfolding vertexAs
+first-coordinates n r k l = getD-take n (vertexAs 4 r) k 0ℤ l
+
 -- a vertex is at most m in size if its first n coordinates are and the others are those of such a vertex
 pub size-parts :
     (n m : ℕ) (v r : Vertex) → drop n (vertexAs 4 r) ≡ drop n (vertexAs 4 v) → VertexSize m v
-    → ((k : ℕ) → k < n → Size m (getD (vertexAs 4 r) k 0ℤ)) → VertexSize m r
+    → ((k : ℕ) → k < n → Size m (getD (vertexAs n r) k 0ℤ)) → VertexSize m r
 size-parts n m v r e s h = sized-vertex (λ k. go k (ltb k n) refl)
   where
     go : (k : ℕ) (t : Bool) → ltb k n ≡ t → Size m (getD (vertexAs 4 r) k 0ℤ)
-    go k true q = h k (ltb-true k n q)
+    go k true q = subst (Size m) (first-coordinates n r k (ltb-true k n q)) (h k (ltb-true k n q))
     go k false q =
         let behind : n + (k - n) ≡ k = omega (arith, ltb-false k n q) in
         rw behind at

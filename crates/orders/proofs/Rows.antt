@@ -1,16 +1,14 @@
 -- Every row of the table is an order of its axes, and the constant arrays of the code have the table's entries and the masks of its vertices.
 use Prim.Native.Nat.{ℕ, _+_, _*_, _≤_, _<_}
-use mathlib.Core.Path.{_≡_, refl, sym, ap₂, _∙_}
+use mathlib.Core.Path.{_≡_, refl}
 use mathlib.Core.Bool.{Bool, true, cond, _||_}
-use mathlib.Core.List.{List, [], _∷_, map}
+use mathlib.Core.List.{List, [], _∷_}
 use native.Mathlib.Omega.{arith}
-use lib.ListN.{length, getD, take}
+use lib.ListN.{length, getD}
 use lib.Dec.{eqb, ltb, leb}
 use borrow.Author.Tests.{eqb-true, ltb-true, lt-leb, eq-eqb, ne-eqb}
-use Rattle.curves.specs.Grid.{Vertex, plus, vertices, orders, isOrder, absent, distinct, under, masksFrom, sameMasks}
-use Rattle.curves.proofs.OrderTests.{order-length, order-distinct}
-use Rattle.curves.proofs.SameFacet.{sameMasks-sound}
-use Rattle.curves.proofs.Vertices.{plus-zero, vertices-masks}
+use Rattle.curves.specs.Grid.{orders, isOrder, absent, distinct, under, masksFrom}
+use Rattle.curves.proofs.OrderTests.{order-length}
 use Rattle.paper.specs.Job.{allFrom}
 use Rattle.orders.specs.Table.{orderAt, axisAt, vertexMask, InTable, AxisIs}
 use Rattle.orders.proofs.Tested.{passes}
@@ -91,26 +89,3 @@ module _ (n row k : ℕ) (h : InTable n row) where
   pub mask-three : k ≤ n → (n ≡ 2 → ⊥) → getD masks3 (4 * row + k) 0 ≡ vertexMask (orderAt n row) k
   unfolding mask
   mask-three l d = rw (ne-eqb n 2 d) at (mask-is l)
-
--- ---- the vertices of a simplex
-
-rowMasks : ℕ → ℕ → ℕ → Bool
-rowMasks n row k = sameMasks (take n (vertexMask (orderAt n row) 1 ∷ vertexMask (orderAt n row) 2 ∷ vertexMask (orderAt n row) 3 ∷ vertexMask (orderAt n row) 4 ∷ [])) (masksFrom 0 (orderAt n row))
-
-row-masks :
-    (n row : ℕ) → InTable n row
-    → take n (vertexMask (orderAt n row) 1 ∷ vertexMask (orderAt n row) 2 ∷ vertexMask (orderAt n row) 3 ∷ vertexMask (orderAt n row) 4 ∷ [])
-    ≡ masksFrom 0 (orderAt n row)
-unfolding rowMasks vertexMask masksFrom orderAt orders sameMasks allFrom
-row-masks n row h =
-    sameMasks-sound (take n (vertexMask (orderAt n row) 1 ∷ vertexMask (orderAt n row) 2 ∷ vertexMask (orderAt n row) 3 ∷ vertexMask (orderAt n row) 4 ∷ []))
-    (masksFrom 0 (orderAt n row)) (passes rowMasks refl refl refl n row 0 h (omega arith))
-
--- the corner with the masks of a row's vertices added: the vertices of the simplex
-pub row-vertices :
-    (n row : ℕ) → InTable n row → (c : Vertex)
-    → map (plus c) (0 ∷ take n (vertexMask (orderAt n row) 1 ∷ vertexMask (orderAt n row) 2 ∷ vertexMask (orderAt n row) 3 ∷ vertexMask (orderAt n row) 4 ∷ []))
-    ≡ vertices c (orderAt n row)
-row-vertices n row h c =
-    ap₂ (λ v ms. v ∷ map (plus c) ms) (plus-zero c) (row-masks n row h)
-    ∙ sym (vertices-masks c (orderAt n row) (order-distinct n (orderAt n row) (row-order n row h)))
