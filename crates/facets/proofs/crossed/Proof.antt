@@ -1,6 +1,6 @@
 -- `facets::crossed` meets its contract. At the head of the walk over the vertices every vertex before i was with D, so the answer is what the
 -- vertices from i on say; at the head of the walk over the powers every coefficient before j was 0, so the vertex's sign is that of the rest.
-use Prim.Native.Nat.{_≤_, _-_}
+use Prim.Native.Nat.{_≤_, _<_, _-_}
 use mathlib.Core.Path.{_≡_, refl, sym, ap, _∙_}
 use mathlib.Core.Bool.{true, false, true≢false}
 use mathlib.Core.Logic.{⊎-elim}
@@ -44,6 +44,10 @@ found-is :
     ≡ signNumber (sign (coefficient (c .before .before .before .before .before .before .before .before .before .args .n) (facetColumns (c .before .before .before .before .before .before .before .before .before .args .n) (c .before .before .before .before .before .before .before .before .before .args .cells .now) (c .before .before .before .before .before .before .before .before .before .args .out)) (c .before .before .before .before .before .vertices .i) (c .before .before .before .loop .j)))
 found-is c = c .sign-of2 .ensures ∙ ap (λ z. signNumber (sign z)) (holds-call (c .before .coefficient .ensures) (lit≤ tt) .is)
 
+-- a power that is looked at is below n
+inside : (c : tie.In-loop Inv-loop μ-loop Inv-vertices μ-vertices) → c .before .loop .j < c .before .before .before .before .before .before .before .args .n
+inside c = omega (arith, c .loop-test .taken, c .before .before .before .before .before .before .before .pre .0 .axes .low)
+
 determinant-requires : tie.Need-determinant-requires Inv-loop μ-loop Inv-vertices μ-vertices
 determinant-requires c κs = c .pre
 
@@ -61,7 +65,7 @@ loop-holds c = (refl, (omega arith, left-begin _ _ (c .before .vertices .i)))
 
 coefficient-requires : tie.Need-coefficient-requires Inv-loop μ-loop Inv-vertices μ-vertices
 coefficient-requires c κs =
-    (c .before .before .before .before .before .before .before .pre .0, (c .before .before .before .before .before .before .before .pre .1, (c .before .before .vertices-test .taken, c .loop-test .taken)))
+    (c .before .before .before .before .before .before .before .pre .0, (c .before .before .before .before .before .before .before .pre .1, (c .before .before .vertices-test .taken, inside c)))
 
 sign-of-requires-2 : tie.Need-sign-of-requires-2 Inv-loop μ-loop Inv-vertices μ-vertices
 sign-of-requires-2 c κs = tt
@@ -78,7 +82,7 @@ loop-again c = (
   (
     omega arith,
     c .before .before .before .before .loop .inv .1 .1
-        ∙ left-passed _ _ (c .before .before .before .before .before .before .vertices .i) (c .before .before .before .before .loop .j) (c .before .before .before .loop-test .taken) (sym (found-is (c .before)) ∙ c .if2 .left),
+        ∙ left-passed _ _ (c .before .before .before .before .before .before .vertices .i) (c .before .before .before .before .loop .j) (inside (c .before .before .before)) (sym (found-is (c .before)) ∙ c .if2 .left),
   ),
 )
 
@@ -98,7 +102,7 @@ vertices-again c =
       (
         omega arith,
         c .before .before .before .before .vertices .inv .1 .1
-            ∙ vertex-with _ _ (c .before .before .before .before .vertices .i) (c .before .before .loop .j) (c .before .before .before .vertices-test .taken) (w .0 .taken) (c .before .before .loop .inv .1 .1)
+            ∙ vertex-with _ _ (c .before .before .before .before .vertices .i) (c .before .before .loop .j) (c .before .before .before .vertices-test .taken) (inside (record { before = c .before .before; loop-test = w .0 })) (c .before .before .loop .inv .1 .1)
             (λ h. w .3 .taken (found ∙ h)) (sym found ∙ w .4 .left ∙ side-is (c .before .before .before .before .before .before)),
       ),
     ))
@@ -113,7 +117,7 @@ returns-3 c =
     c .before .before .before .before .before .loop .inv .0
     ∙ sym
     (c .before .before .before .before .before .before .before .vertices .inv .1 .1
-    ∙ vertex-against _ _ (c .before .before .before .before .before .before .before .vertices .i) (c .before .before .before .before .before .loop .j) (c .before .before .before .before .before .before .vertices-test .taken) (c .before .before .before .before .loop-test .taken) (c .before .before .before .before .before .loop .inv .1 .1)
+    ∙ vertex-against _ _ (c .before .before .before .before .before .before .before .vertices .i) (c .before .before .before .before .before .loop .j) (c .before .before .before .before .before .before .vertices-test .taken) (inside (c .before .before .before .before)) (c .before .before .before .before .before .loop .inv .1 .1)
     (λ h. c .before .if2 .taken (found-is (c .before .before) ∙ h)) (λ h. c .if3 .taken (found-is (c .before .before) ∙ h ∙ sym (side-is (c .before .before .before .before .before .before .before .before .before)))))
 
 returns-4 : tie.Need-returns-4 Inv-loop μ-loop Inv-vertices μ-vertices

@@ -1,4 +1,4 @@
--- `rounding::round_steps` meets its contract. Before doubling k, 2 to the k times num is steps times den plus rest, with rest below den.
+-- `points::rounding::round_steps` meets its contract. Before doubling k, 2 to the k times num is steps times den plus rest, with rest below den.
 use Prim.Native.Nat.{_+_, _*_, _≤_, _-_}
 use mathlib.Core.Logic.{⊎-elim}
 use mathlib.Core.Path.{sym, subst}
