@@ -1,5 +1,5 @@
 -- Lists of the values of a function at 0, 1, .., m − 1: a test of every member, and equality, go by the index.
-use mathlib.Core.Path.{_≡_, refl, sym, ap, ap₂, _∙_}
+use mathlib.Core.Path.{_≡_, refl, sym, ap, _∙_}
 use mathlib.Core.Bool.{Bool, true, false, _&&_}
 use mathlib.Core.List.{List, [], _∷_, map}
 use Prim.Native.Nat.{ℕ, suc, zero, _+_, _≤_, _<_}
@@ -7,6 +7,7 @@ use native.Mathlib.Omega.{arith}
 use lib.Dec.{eqb}
 use borrow.Author.Tests.{eqb-true, eqb-false}
 use Rattle.exact.specs.Crossed.{countFrom, remove}
+use Rattle.exact.proofs.CountFrom.{map-countFrom-ext}
 use Rattle.curves.specs.Step.{every}
 use Rattle.paper.proofs.Tests.{and-true}
 
@@ -45,15 +46,8 @@ module _ {A : Type 0} (t : A → Bool) (f : ℕ → A) where
       go true e = refl
       go false e = sym (every-fails m i l e) ∙ h
 
-module _ {A : Type 0} (f g : ℕ → A) where
-  same-from : (k m : ℕ) → ((i : ℕ) → k ≤ i → i < k + m → f i ≡ g i) → map f (countFrom k m) ≡ map g (countFrom k m)
-  unfolding countFrom
-  same-from k zero h = refl
-  same-from k (suc m) h =
-      ap₂ _∷_ (h k (omega arith) (omega arith)) (same-from (suc k) m (λ i l u. h i (omega arith) (omega arith)))
-
-  pub same-each : (m : ℕ) → ((i : ℕ) → i < m → f i ≡ g i) → map f (countFrom 0 m) ≡ map g (countFrom 0 m)
-  same-each m h = same-from 0 m (λ i l u. h i (omega arith))
+pub same-each : {A : Type 0} (f g : ℕ → A) (m : ℕ) → ((i : ℕ) → i < m → f i ≡ g i) → map f (countFrom 0 m) ≡ map g (countFrom 0 m)
+same-each f g m h = map-countFrom-ext f g 0 m (λ i l u. h i (omega arith))
 
 -- two maps, one after the other
 pub map-map : {A B : Type 0} (g : A → B) (f : ℕ → A) (ks : List ℕ) → map g (map f ks) ≡ map (λ k. g (f k)) ks
@@ -61,14 +55,6 @@ map-map g f [] = refl
 map-map g f (k ∷ ks) = ap (λ l. g (f k) ∷ l) (map-map g f ks)
 
 module _ {A : Type 0} (f : ℕ → A) where
-  -- counted from one more
-  pub count-shifted : (k m : ℕ) → map f (countFrom (suc k) m) ≡ map (λ i. f (i + 1)) (countFrom k m)
-  unfolding countFrom
-  count-shifted k zero = refl
-  count-shifted k (suc m) =
-      let e : suc k ≡ k + 1 = omega arith in
-      ap₂ _∷_ (ap f e) (count-shifted (suc k) m)
-
   -- without the last
   pub remove-last : (k m : ℕ) → remove m (map f (countFrom k (suc m))) ≡ map f (countFrom k m)
   unfolding countFrom remove

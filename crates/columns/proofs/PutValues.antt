@@ -13,6 +13,7 @@ use borrow.Author.Tests.{eqb-true, eqb-false}
 use Rattle.exact.specs.Int.{0ℤ, 1ℤ}
 use Rattle.exact.specs.Size.{Size}
 use Rattle.exact.specs.Crossed.{countFrom}
+use Rattle.exact.proofs.CountFrom.{map-countFrom-suc}
 use Rattle.curves.specs.Grid.{Vertex}
 use Rattle.curves.specs.Step.{column, every}
 use Rattle.paper.specs.Job.{dimension, body}
@@ -20,7 +21,7 @@ use Rattle.paper.specs.Values.{rawSum, readableSum, valueOf, sums, fieldOf}
 use Rattle.job.specs.OpenJob.{JobOf}
 use Rattle.facets.specs.Cells.{columnAt, entryLimit, Cells}
 use Rattle.columns.specs.Found.{ValuePut, ValuesPut}
-use Rattle.columns.proofs.Counted.{every-all, every-fails, same-each, map-map, count-shifted}
+use Rattle.columns.proofs.Counted.{every-all, every-fails, same-each, map-map}
 use Rattle.columns.proofs.OpenedJob.{job-value}
 
 -- ---- one cell
@@ -75,7 +76,11 @@ module _ {n : ℕ} {s : List ℕ} (j : JobOf n s) (v : Vertex) where
 
   sums-are : sums s v ≡ map sum-at (countFrom 0 (n - 1))
   unfolding sums sum-at
-  sums-are = rw (← j .dimension) (count-shifted (λ k. rawSum (body s k) v) 0 (n - 1))
+  sums-are =
+      let next : (q : ℕ) → suc q ≡ q + 1 = λ q. omega arith in
+      rw (← j .dimension) (
+      map-countFrom-suc (λ k. rawSum (body s k) v) 0 (n - 1)
+      ∙ same-each (λ q. rawSum (body s (suc q)) v) sum-at (n - 1) (λ q l. ap (λ (k : ℕ). rawSum (body s k) v) (next q)))
 
   readable-are : every (readableSum n) (map sum-at (countFrom 0 (n - 1))) ≡ fieldOf s .readable v
   unfolding fieldOf
