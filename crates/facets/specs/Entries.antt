@@ -17,9 +17,13 @@ pub record CellsWithin (m : ℕ) (cells : List ℤ) : Type 0 where
   pub count : length cells ≡ 15
   pub entries : (k : ℕ) → Size m (getD cells k 0ℤ)
 
+-- an entry times a determinant of two rows, of entries up to 2 ^ 19
+abbrev pub productLimit : ℕ
+productLimit = 2 ^ 58
+
 -- a coefficient: a determinant of 3 rows of entries up to 2 ^ 19 is at most 6 · 2 ^ 57, one of 2 rows of entries up to 2 ^ 28 less
 abbrev pub coefficientLimit : ℕ
-coefficientLimit = 3 * 2 ^ 58
+coefficientLimit = 3 * productLimit
 
 -- D, a sum of at most four coefficients
 abbrev pub determinantLimit : ℕ

@@ -3,12 +3,13 @@
 ghost use mathlib.Core.Path.{_≡_};
 ghost use mathlib.Core.List.{[], _∷_};
 ghost use Prim.Native.Nat.{_+_, _≤_, _<_};
+ghost use Rattle.exact.specs.Int.{_⊗_};
 ghost use Rattle.exact.specs.Size.{Is};
 ghost use Rattle.exact.specs.Det.{det, rowsFrom, determinant};
 ghost use Rattle.exact.specs.Crossed.{remove, coefficient};
 ghost use Rattle.exact.specs.Minors.{skip};
 ghost use Rattle.facets.specs.Cells.{Cells, entryLimit, facetColumns};
-ghost use Rattle.facets.specs.Entries.{entryAt, CellsWithin, coefficientLimit, determinantLimit};
+ghost use Rattle.facets.specs.Entries.{entryAt, CellsWithin, productLimit, coefficientLimit, determinantLimit};
 
 // The place in the whole list of element i of the list without element p.
 fn skip(p: usize, i: usize) -> usize
@@ -42,16 +43,23 @@ fn two_rows(cells: &[i64; 15], r: usize, s: usize, a: usize, b: usize) -> i64
     entry(cells, r, a) * entry(cells, s, b) - entry(cells, r, b) * entry(cells, s, a)
 }
 
+// The entry of row r at vertex a, times the determinant of rows s and t in the columns of vertices b and c.
+fn product(cells: &[i64; 15], r: usize, s: usize, t: usize, a: usize, b: usize, c: usize) -> i64
+    requires { ⌜ CellsWithin (entryLimit 4) (now cells) ⌝ }
+    requires { ⌜ ((r < 4) × ((s < 4) × (t < 4))) × ((a < 5) × ((b < 5) × (c < 5))) ⌝ }
+    ensures { λ z. ⌜ Is productLimit (entryAt (now (cells .entry)) r a ⊗ det (entryAt (now (cells .entry)) s ∷ entryAt (now (cells .entry)) t ∷ []) (b ∷ c ∷ [])) z ⌝ }
+{
+    entry(cells, r, a) * two_rows(cells, s, t, b, c)
+}
+
 // The determinant of three rows in the columns of three vertices, expanded along the first row.
 fn three_rows(cells: &[i64; 15], r: usize, s: usize, t: usize, a: usize, b: usize, c: usize) -> i64
     requires { ⌜ CellsWithin (entryLimit 4) (now cells) ⌝ }
     requires { ⌜ ((r < 4) × ((s < 4) × (t < 4))) × ((a < 5) × ((b < 5) × (c < 5))) ⌝ }
     ensures { λ z. ⌜ z ≡ det (entryAt (now (cells .entry)) r ∷ entryAt (now (cells .entry)) s ∷ entryAt (now (cells .entry)) t ∷ []) (a ∷ b ∷ c ∷ []) ⌝ }
 {
-    let first = entry(cells, r, a) * two_rows(cells, s, t, b, c);
-    let second = entry(cells, r, b) * two_rows(cells, s, t, a, c);
-    let third = entry(cells, r, c) * two_rows(cells, s, t, a, b);
-    first - second + third
+    product(cells, r, s, t, a, b, c) - product(cells, r, s, t, b, a, c)
+        + product(cells, r, s, t, c, a, b)
 }
 
 // The determinant of the facet without vertex `out`, without its column i and row j.

@@ -1,0 +1,25 @@
+-- `determinants::product` meets its contract: the entries are at most 2 ^ 19 in size, so the product fits.
+use Rattle.exact.proofs.Bits.{fits-mul, holds-mul}
+use lib.Dec.{lit≤}
+use Rattle.facets.proofs.Entries.{entry-of-three, two-rows-of-three, within-most}
+use Rattle.facets.proofs.determinants.product.Statement.{statement}
+use Rattle.facets.proofs.determinants.product.Tie as tie
+
+entry-requires : tie.Need-entry-requires
+entry-requires c κs = (within-most (c .pre .0), (c .pre .1 .0 .0, c .pre .1 .1 .0))
+
+two-rows-requires : tie.Need-two-rows-requires
+two-rows-requires c κs = (within-most (c .before .pre .0), (c .before .pre .1 .0 .1, c .before .pre .1 .1 .1))
+
+mul-result : tie.Need-mul-result
+mul-result c =
+    fits-mul (entry-of-three (c .before .before .pre .0) (c .before .before .args .r) (c .before .before .args .a) (c .before .entry .ensures))
+    (two-rows-of-three (c .before .before .pre .0) (c .before .before .args .s) (c .before .before .args .t) (c .before .before .args .b) (c .before .before .args .c) (c .two-rows .ensures)) (lit≤ tt)
+
+returns : tie.Need-returns
+returns c =
+    holds-mul (entry-of-three (c .before .before .pre .0) (c .before .before .args .r) (c .before .before .args .a) (c .before .entry .ensures))
+    (two-rows-of-three (c .before .before .pre .0) (c .before .before .args .s) (c .before .before .args .t) (c .before .before .args .b) (c .before .before .args .c) (c .two-rows .ensures)) (lit≤ tt)
+
+pub product-spec : {M : Type 1} → statement M
+product-spec = tie.close (tie.spec entry-requires two-rows-requires mul-result returns)
