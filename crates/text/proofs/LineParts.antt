@@ -5,8 +5,13 @@ use Prim.Native.Nat.{ℕ, suc, zero, _-_, _≤_}
 use native.Mathlib.Omega.{arith}
 use lib.IntN.{ℤ, pos}
 use lib.ListN.{take}
+use mir.Syntax.{w64}
+use mir.Val.{SFits}
+use Rattle.exact.proofs.Bits.{back}
 use Rattle.paper.specs.Listing.{decimal, signedDecimal, blankNumbers, numberLine, placeNumbers, placeLine}
 use Rattle.paper.proofs.Decimal.{blank-append}
+use Rattle.paper.specs.declared.StepPoint.{StepPoint}
+use Rattle.bits.proofs.SignedBits.{bits-are}
 use Rattle.places.specs.Held.{vertexAs, masksAs, facetAs}
 use Rattle.places.specs.declared.HeldPlace.{HeldPlace}
 
@@ -64,8 +69,10 @@ module _ (p : HeldPlace) (point : List ℤ) where
   unfolding placeNumbers facetAs vertexAs masksAs later masks
   place-numbers zero l = absurd (omega arith)
   place-numbers (suc m) l =
-      ap (λ (t : List ℤ). p .low .x ∷ (take m (p .low .y ∷ p .low .z ∷ p .low .w ∷ []) ++ (t ++ point)))
-      (sym (map-take pos m (p .mask1 ∷ p .mask2 ∷ p .mask3 ∷ [])))
+      let less : suc m - 1 ≡ m = omega arith in
+      rw less
+      (ap (λ (t : List ℤ). p .low .x ∷ (take m (p .low .y ∷ p .low .z ∷ p .low .w ∷ []) ++ (t ++ point)))
+      (sym (map-take pos m (p .mask1 ∷ p .mask2 ∷ p .mask3 ∷ []))))
 
   pub place-text : (n : ℕ) → 1 ≤ n
       → signedDecimal (p .low .x)
@@ -81,3 +88,18 @@ module _ (p : HeldPlace) (point : List ℤ) where
       ∙ ap (λ (t : List ℕ). blankNumbers (later (n - 1)) ++ t) (blank-append (masks (n - 1)) point))
       ∙ simp append-assoc))
       ∙ ap numberLine (place-numbers n l)
+
+-- the same with the numbers as the code hands them over
+pub place-shown : (n : ℕ) (p : HeldPlace) (q : StepPoint) → 1 ≤ n → SFits w64 (p .low .x) → SFits w64 (p .low .y) → SFits w64 (p .low .z)
+    → SFits w64 (p .low .w) → SFits w64 (q .x) → SFits w64 (q .y) → SFits w64 (q .z)
+    → signedDecimal (back (p .low .x))
+    ++ (blankNumbers (take (n - 1) (back (p .low .y) ∷ back (p .low .z) ∷ back (p .low .w) ∷ []))
+    ++ (blankNumbers (take (n - 1) (pos (p .mask1) ∷ pos (p .mask2) ∷ pos (p .mask3) ∷ []))
+    ++ (blankNumbers (take n (back (q .x) ∷ back (q .y) ∷ back (q .z) ∷ [])) ++ (10 ∷ []))))
+    ≡ placeLine (facetAs n p) (take n (q .x ∷ q .y ∷ q .z ∷ []))
+place-shown n p q l x y z w a b c =
+    (λ i. signedDecimal (bits-are x i)
+    ++ (blankNumbers (take (n - 1) (bits-are y i ∷ bits-are z i ∷ bits-are w i ∷ []))
+    ++ (blankNumbers (take (n - 1) (pos (p .mask1) ∷ pos (p .mask2) ∷ pos (p .mask3) ∷ []))
+    ++ (blankNumbers (take n (bits-are a i ∷ bits-are b i ∷ bits-are c i ∷ [])) ++ (10 ∷ [])))))
+    ∙ place-text p (take n (q .x ∷ q .y ∷ q .z ∷ [])) n l
