@@ -22,24 +22,24 @@ put-masks-requires : tie.Need-put-masks-requires
 put-masks-requires c κs = search needs
 
 put-numbers-requires-2 : tie.Need-put-numbers-requires-2
-put-numbers-requires-2 c κs = (omega (arith, c .before .before .before .before .before .before .before .before .before .before .before .before .before .before .before .before .before .before .before .before .before .before .pre .0 .low), omega (arith, c .before .before .before .before .before .before .before .before .before .before .before .before .before .before .before .before .before .before .before .before .before .before .pre .1, c .before .before .before .before .before .before .before .before .before .before .before .before .before .before .before .before .before .put-signed .kept, c .before .before .before .before .before .before .before .before .before .before .put-numbers .kept, c .before .before .before .before .before .before .put-masks .kept, c .before .before .before .before .before .before .before .before .before .before .before .before .before .before .before .before .before .put-signed .ensures .end, c .before .before .before .before .before .before .before .before .before .before .before .before .before .before .before .before .before .put-signed .ensures .short, c .before .before .before .before .before .before .before .before .before .before .put-numbers .ensures .end, c .before .before .before .before .before .before .before .before .before .before .put-numbers .ensures .short, c .before .before .before .before .before .before .put-masks .ensures .end, c .before .before .before .before .before .before .put-masks .ensures .short))
+put-numbers-requires-2 c κs = (omega (arith, c .before .before .before .before .before .before .before .before .before .before .before .before .before .before .before .before .before .before .before .before .before .before .pre .0 .low), omega (arith, c .before .before .before .before .before .before .before .before .before .before .before .before .before .before .before .before .before .before .before .before .before .before .pre .1, c .before .before .before .before .before .before .before .before .before .before .before .before .put-signed .kept, c .before .before .before .before .before .before .before .put-numbers .kept, c .before .before .before .put-masks .kept, c .before .before .before .before .before .before .before .before .before .before .before .before .put-signed .ensures .end, c .before .before .before .before .before .before .before .before .before .before .before .before .put-signed .ensures .short, c .before .before .before .before .before .before .before .put-numbers .ensures .end, c .before .before .before .before .before .before .before .put-numbers .ensures .short, c .before .before .before .put-masks .ensures .end, c .before .before .before .put-masks .ensures .short))
 
 put-byte-requires : tie.Need-put-byte-requires
-put-byte-requires c κs = omega (arith, c .before .before .before .before .before .before .before .before .before .before .before .before .before .before .before .before .before .before .before .before .before .before .before .before .before .before .pre .1, c .before .before .before .before .before .before .before .before .before .before .before .before .before .before .before .before .before .before .before .before .before .put-signed .kept, c .before .before .before .before .before .before .before .before .before .before .before .before .before .before .put-numbers .kept, c .before .before .before .before .before .before .before .before .before .before .put-masks .kept, c .before .before .before .put-numbers2 .kept, c .before .before .before .before .before .before .before .before .before .before .before .before .before .before .before .before .before .before .before .before .before .put-signed .ensures .end, c .before .before .before .before .before .before .before .before .before .before .before .before .before .before .before .before .before .before .before .before .before .put-signed .ensures .short, c .before .before .before .before .before .before .before .before .before .before .before .before .before .before .put-numbers .ensures .end, c .before .before .before .before .before .before .before .before .before .before .before .before .before .before .put-numbers .ensures .short, c .before .before .before .before .before .before .before .before .before .before .put-masks .ensures .end, c .before .before .before .before .before .before .before .before .before .before .put-masks .ensures .short, c .before .before .before .put-numbers2 .ensures .end, c .before .before .before .put-numbers2 .ensures .short)
+put-byte-requires c κs = omega (arith, c .before .before .before .before .before .before .before .before .before .before .before .before .before .before .before .before .before .before .before .before .before .before .before .before .before .before .pre .1, c .before .before .before .before .before .before .before .before .before .before .before .before .before .before .before .before .put-signed .kept, c .before .before .before .before .before .before .before .before .before .before .before .put-numbers .kept, c .before .before .before .before .before .before .before .put-masks .kept, c .before .before .before .put-numbers2 .kept, c .before .before .before .before .before .before .before .before .before .before .before .before .before .before .before .before .put-signed .ensures .end, c .before .before .before .before .before .before .before .before .before .before .before .before .before .before .before .before .put-signed .ensures .short, c .before .before .before .before .before .before .before .before .before .before .before .put-numbers .ensures .end, c .before .before .before .before .before .before .before .before .before .before .before .put-numbers .ensures .short, c .before .before .before .before .before .before .before .put-masks .ensures .end, c .before .before .before .before .before .before .before .put-masks .ensures .short, c .before .before .before .put-numbers2 .ensures .end, c .before .before .before .put-numbers2 .ensures .short)
 
 same-length : tie.Need-same-length
-same-length c = omega (arith, c .before .before .before .before .before .before .before .before .before .before .before .before .before .before .before .before .before .before .before .before .before .before .before .before .put-signed .kept, c .before .before .before .before .before .before .before .before .before .before .before .before .before .before .before .before .before .put-numbers .kept, c .before .before .before .before .before .before .before .before .before .before .before .before .before .put-masks .kept, c .before .before .before .before .before .before .put-numbers2 .kept, c .before .before .put-byte .kept)
+same-length c = search needs
 
 returns : tie.Need-returns
 returns c =
     let s = c .before .before .before .before .before .before .before .before .before .before .before .before .before .before .before .before .before .before .before .before .before .before .before .before .before .before .before .before .before in
-    let low = c .before .before .before .before .before .before .before .before .before .before .before .before .before .before .before .before .before .before .before .before .before .before .before .before .before .struct-told .given in
-    let point = c .before .before .before .before .before .before .before .before .before .struct-told5 .given in
+    let low = c .before .before .before .before .before .before .before .before .before .before .before .before .before .before .before .before .before .before .before .before .before .before .before .before .before .before .struct-told .given in
+    let point = c .before .before .before .before .before .before .before .before .before .before .before .before .before .before .before .before .before .before .before .before .before .before .before .struct-told4 .given in
     writes-as
     (place-shown (s .args .n) (s .args .p) (s .args .q) (omega (arith, s .pre .0 .low)) (record { sfits = low .0 .1 }) (record { sfits = low .1 .0 .1 }) (record { sfits = low .1 .1 .0 .1 }) (record { sfits = low .1 .1 .1 .0 .1 })
     (record { sfits = point .0 .1 }) (record { sfits = point .1 .0 .1 }) (record { sfits = point .1 .1 .0 .1 }))
     (omega arith)
-    (writes-then (omega arith) (c .before .before .before .before .before .before .before .before .before .before .before .before .before .before .before .before .before .before .before .before .before .before .before .before .put-signed .ensures) (λ i. writes-then i (c .before .before .before .before .before .before .before .before .before .before .before .before .before .before .before .before .before .put-numbers .ensures) (λ i. writes-then i (c .before .before .before .before .before .before .before .before .before .before .before .before .before .put-masks .ensures) (λ i. writes-then i (c .before .before .before .before .before .before .put-numbers2 .ensures) (λ i. c .before .before .put-byte .ensures)))))
+    (writes-then (omega arith) (c .before .before .before .before .before .before .before .before .before .before .before .before .before .before .before .before .before .before .before .put-signed .ensures) (λ i. writes-then i (c .before .before .before .before .before .before .before .before .before .before .before .before .before .before .put-numbers .ensures) (λ i. writes-then i (c .before .before .before .before .before .before .before .before .before .before .put-masks .ensures) (λ i. writes-then i (c .before .before .before .before .before .before .put-numbers2 .ensures) (λ i. c .before .before .put-byte .ensures)))))
 
 pub put-place-spec : {M : Type 1} → statement M
 put-place-spec =
