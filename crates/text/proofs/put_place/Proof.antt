@@ -1,7 +1,6 @@
 -- `put_place` meets its contract: the parts of a place's line, one behind the other.
 use native.Mathlib.Omega.{arith}
-use Rattle.decimals.proofs.WrittenParts.{writes-then, writes-as}
-use Rattle.text.proofs.LineParts.{place-shown}
+use Rattle.text.proofs.LineParts.{place-written}
 use borrow.Author.Needs.{needs}
 use Rattle.text.proofs.put_place.Statement.{statement}
 use Rattle.text.proofs.put_place.Tie as tie
@@ -35,11 +34,13 @@ returns c =
     let s = c .before .before .before .before .before .before .before .before .before .before .before .before .before .before .before .before .before .before .before .before .before .before .before .before .before .before .before .before .before in
     let low = c .before .before .before .before .before .before .before .before .before .before .before .before .before .before .before .before .before .before .before .before .before .before .before .before .before .before .struct-told .given in
     let point = c .before .before .before .before .before .before .before .before .before .before .before .before .before .before .before .before .before .before .before .before .before .before .before .struct-told4 .given in
-    writes-as
-    (place-shown (s .args .n) (s .args .p) (s .args .q) (omega (arith, s .pre .0 .low)) (record { sfits = low .0 .1 }) (record { sfits = low .1 .0 .1 }) (record { sfits = low .1 .1 .0 .1 }) (record { sfits = low .1 .1 .1 .0 .1 })
-    (record { sfits = point .0 .1 }) (record { sfits = point .1 .0 .1 }) (record { sfits = point .1 .1 .0 .1 }))
-    (omega arith)
-    (writes-then (omega arith) (c .before .before .before .before .before .before .before .before .before .before .before .before .before .before .before .before .before .before .before .put-signed .ensures) (λ i. writes-then i (c .before .before .before .before .before .before .before .before .before .before .before .before .before .before .put-numbers .ensures) (λ i. writes-then i (c .before .before .before .before .before .before .before .before .before .before .put-masks .ensures) (λ i. writes-then i (c .before .before .before .before .before .before .put-numbers2 .ensures) (λ i. c .before .before .put-byte .ensures)))))
+    place-written (s .args .n) (s .args .p) (s .args .q) (omega (arith, s .pre .0 .low)) (record { sfits = low .0 .1 }) (record { sfits = low .1 .0 .1 }) (record { sfits = low .1 .1 .0 .1 }) (record { sfits = low .1 .1 .1 .0 .1 })
+    (record { sfits = point .0 .1 }) (record { sfits = point .1 .0 .1 }) (record { sfits = point .1 .1 .0 .1 }) (omega (arith, s .pre .1))
+    (c .before .before .before .before .before .before .before .before .before .before .before .before .before .before .before .before .before .before .before .put-signed .ensures)
+    (c .before .before .before .before .before .before .before .before .before .before .before .before .before .before .put-numbers .ensures)
+    (c .before .before .before .before .before .before .before .before .before .before .put-masks .ensures)
+    (c .before .before .before .before .before .before .put-numbers2 .ensures)
+    (c .before .before .put-byte .ensures)
 
 pub put-place-spec : {M : Type 1} → statement M
 put-place-spec =
