@@ -4,11 +4,19 @@ use mathlib.Core.List.{List, [], _∷_, _++_, map, append-nil, append-assoc}
 use Prim.Native.Nat.{ℕ, suc, zero, _-_, _≤_}
 use native.Mathlib.Omega.{arith}
 use lib.IntN.{ℤ, pos}
-use lib.ListN.{take}
+use lib.ListN.{length, take}
+use mir.Syntax.{w64}
+use mir.Val.{SFits}
+use Rattle.exact.proofs.Bits.{back}
 use Rattle.paper.specs.Listing.{decimal, signedDecimal, blankNumbers, numberLine, placeNumbers, placeLine}
 use Rattle.paper.proofs.Decimal.{blank-append}
+use Rattle.paper.specs.declared.StepPoint.{StepPoint}
+use Rattle.bits.proofs.SignedBits.{bits-are}
 use Rattle.places.specs.Held.{vertexAs, masksAs, facetAs}
 use Rattle.places.specs.declared.HeldPlace.{HeldPlace}
+use Rattle.decimals.specs.Written.{Writes}
+use Rattle.decimals.proofs.WrittenParts.{writes-then, writes-as}
+use Rattle.text.specs.Lines.{lineLimit}
 
 -- ---- a blank and a number
 
@@ -64,8 +72,10 @@ module _ (p : HeldPlace) (point : List ℤ) where
   unfolding placeNumbers facetAs vertexAs masksAs later masks
   place-numbers zero l = absurd (omega arith)
   place-numbers (suc m) l =
-      ap (λ (t : List ℤ). p .low .x ∷ (take m (p .low .y ∷ p .low .z ∷ p .low .w ∷ []) ++ (t ++ point)))
-      (sym (map-take pos m (p .mask1 ∷ p .mask2 ∷ p .mask3 ∷ [])))
+      let less : suc m - 1 ≡ m = omega arith in
+      rw less
+      (ap (λ (t : List ℤ). p .low .x ∷ (take m (p .low .y ∷ p .low .z ∷ p .low .w ∷ []) ++ (t ++ point)))
+      (sym (map-take pos m (p .mask1 ∷ p .mask2 ∷ p .mask3 ∷ []))))
 
   pub place-text : (n : ℕ) → 1 ≤ n
       → signedDecimal (p .low .x)
@@ -81,3 +91,30 @@ module _ (p : HeldPlace) (point : List ℤ) where
       ∙ ap (λ (t : List ℕ). blankNumbers (later (n - 1)) ++ t) (blank-append (masks (n - 1)) point))
       ∙ simp append-assoc))
       ∙ ap numberLine (place-numbers n l)
+
+-- the same with the numbers as the code hands them over
+module _ (n : ℕ) (p : HeldPlace) (q : StepPoint) (h : 1 ≤ n) (x : SFits w64 (p .low .x)) (y : SFits w64 (p .low .y)) (z : SFits w64 (p .low .z))
+    (w : SFits w64 (p .low .w)) (a : SFits w64 (q .x)) (b : SFits w64 (q .y)) (c : SFits w64 (q .z)) where
+  abbrev laterText : List ℕ
+  laterText = blankNumbers (take (n - 1) (back (p .low .y) ∷ back (p .low .z) ∷ back (p .low .w) ∷ []))
+
+  abbrev maskText : List ℕ
+  maskText = blankNumbers (take (n - 1) (pos (p .mask1) ∷ pos (p .mask2) ∷ pos (p .mask3) ∷ []))
+
+  abbrev pointText : List ℕ
+  pointText = blankNumbers (take n (back (q .x) ∷ back (q .y) ∷ back (q .z) ∷ []))
+
+  place-shown : signedDecimal (back (p .low .x)) ++ (laterText ++ (maskText ++ (pointText ++ (10 ∷ []))))
+      ≡ placeLine (facetAs n p) (take n (q .x ∷ q .y ∷ q .z ∷ []))
+  place-shown =
+      (λ i. signedDecimal (bits-are x i)
+      ++ (blankNumbers (take (n - 1) (bits-are y i ∷ bits-are z i ∷ bits-are w i ∷ []))
+      ++ (maskText ++ (blankNumbers (take n (bits-are a i ∷ bits-are b i ∷ bits-are c i ∷ [])) ++ (10 ∷ [])))))
+      ∙ place-text p (take n (q .x ∷ q .y ∷ q .z ∷ [])) n h
+
+  pub place-written : {at i j k m r : ℕ} {s0 s1 s2 s3 s4 s5 : List ℕ} → at ≤ length s0 → Writes 21 (signedDecimal (back (p .low .x))) at s0 s1 i
+      → Writes 66 laterText i s1 s2 j → Writes 63 maskText j s2 s3 k → Writes 66 pointText k s3 s4 m → Writes 1 (10 ∷ []) m s4 s5 r
+      → Writes lineLimit (placeLine (facetAs n p) (take n (q .x ∷ q .y ∷ q .z ∷ []))) at s0 s5 r
+  place-written l first second third fourth last =
+      writes-as place-shown (omega arith)
+      (writes-then l first (λ l. writes-then l second (λ l. writes-then l third (λ l. writes-then l fourth (λ l. last)))))

@@ -114,9 +114,15 @@ pub fn put_place(buffer: &mut [u8], at: usize, n: usize, p: HeldPlace, q: StepPo
     ensures { λ r. ⌜ Writes lineLimit (placeLine (facetAs n p) (take n (q .x ∷ q .y ∷ q .z ∷ []))) at (now (buffer .entry)) (now (buffer .exit)) r ⌝ }
 {
     let low = p.low;
-    let a = put_signed(buffer, at, low.x);
-    let b = put_numbers(buffer, a, n - 1, low.y, low.z, low.w);
+    let x = low.x;
+    let y = low.y;
+    let z = low.z;
+    let px = q.x;
+    let py = q.y;
+    let pz = q.z;
+    let a = put_signed(buffer, at, x);
+    let b = put_numbers(buffer, a, n - 1, y, z, low.w);
     let c = put_masks(buffer, b, n - 1, p.mask1, p.mask2, p.mask3);
-    let d = put_numbers(buffer, c, n, q.x, q.y, q.z);
+    let d = put_numbers(buffer, c, n, px, py, pz);
     put_byte(buffer, d, b'\n')
 }

@@ -1,45 +1,48 @@
+-- `put_masks` meets its contract: one mask behind another.
+use mathlib.Core.Path.{refl}
+use native.Mathlib.Omega.{arith}
+use lib.IntN.{pos}
+use Rattle.decimals.proofs.WrittenParts.{writes-then, writes-as}
+use Rattle.text.proofs.LineParts.{one-shown, two-shown, three-shown}
 use borrow.Author.Needs.{needs}
 use Rattle.text.proofs.put_masks.Statement.{statement}
 use Rattle.text.proofs.put_masks.Tie as tie
-use Rattle.text.proofs.put_masks.Reads as reads
-use Rattle.text.proofs.put_masks.Lts as lts
-use Rattle.text.proofs.put_mask.Reads as put-mask-reads
 
--- src/lib.rt:63:9
 put-mask-requires : tie.Need-put-mask-requires
 put-mask-requires c κs = search needs
 
--- src/lib.rt:65:9
 same-length : tie.Need-same-length
 same-length c = search needs
 
--- src/lib.rt:65:9
 returns : tie.Need-returns
-returns c = ?
+returns c =
+    let s = c .before .before .before .before .before .before in
+    writes-as (one-shown (s .args .m) (pos (s .args .mask1)) (pos (s .args .mask2)) (pos (s .args .mask3)) refl (c .if1 .taken)) (omega arith) (c .before .before .before .put-mask .ensures)
 
--- src/lib.rt:67:9
 put-mask-requires-2 : tie.Need-put-mask-requires-2
 put-mask-requires-2 c κs = search needs
 
--- src/lib.rt:69:9
 same-length-2 : tie.Need-same-length-2
 same-length-2 c = search needs
 
--- src/lib.rt:69:9
 returns-2 : tie.Need-returns-2
-returns-2 c = ?
+returns-2 c =
+    let s = c .before .before .before .before .before .before .before .before .before .before .before in
+    writes-as (two-shown (s .args .m) (pos (s .args .mask1)) (pos (s .args .mask2)) (pos (s .args .mask3)) refl refl (c .if2 .taken)) (omega arith)
+    (writes-then (omega arith) (c .before .before .before .before .before .before .before .before .put-mask .ensures) (λ i. c .before .before .before .put-mask2 .ensures))
 
--- src/lib.rt:71:5
 put-mask-requires-3 : tie.Need-put-mask-requires-3
 put-mask-requires-3 c κs = search needs
 
--- src/lib.rt:59:1
 same-length-3 : tie.Need-same-length-3
 same-length-3 c = search needs
 
--- src/lib.rt:59:1
 returns-3 : tie.Need-returns-3
-returns-3 c = ?
+returns-3 c =
+    let s = c .before .before .before .before .before .before .before .before .before .before .before .before .before .before .before in
+    writes-as
+    (three-shown (s .args .m) (pos (s .args .mask1)) (pos (s .args .mask2)) (pos (s .args .mask3)) refl refl (s .pre .0) (c .before .before .before .before .before .before .before .before .before .if1 .left) (c .before .before .before .before .if2 .left) refl)
+    (omega arith) (writes-then (omega arith) (c .before .before .before .before .before .before .before .before .before .before .before .before .put-mask .ensures) (λ i. writes-then i (c .before .before .before .before .before .before .before .put-mask2 .ensures) (λ i. c .before .before .put-mask3 .ensures)))
 
 pub put-masks-spec : {M : Type 1} → statement M
 put-masks-spec =

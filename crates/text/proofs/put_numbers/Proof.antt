@@ -1,45 +1,47 @@
+-- `put_numbers` meets its contract: one number behind another.
+use native.Mathlib.Omega.{arith}
+use Rattle.bits.proofs.SignedBits.{bits-are}
+use Rattle.decimals.proofs.WrittenParts.{writes-then, writes-as}
+use Rattle.text.proofs.LineParts.{one-shown, two-shown, three-shown}
 use borrow.Author.Needs.{needs}
 use Rattle.text.proofs.put_numbers.Statement.{statement}
 use Rattle.text.proofs.put_numbers.Tie as tie
-use Rattle.text.proofs.put_numbers.Reads as reads
-use Rattle.text.proofs.put_numbers.Lts as lts
-use Rattle.text.proofs.put_next.Reads as put-next-reads
 
--- src/lib.rt:47:9
 put-next-requires : tie.Need-put-next-requires
 put-next-requires c κs = search needs
 
--- src/lib.rt:49:9
 same-length : tie.Need-same-length
 same-length c = search needs
 
--- src/lib.rt:49:9
 returns : tie.Need-returns
-returns c = ?
+returns c =
+    let s = c .before .before .before .before .before .before in
+    writes-as (one-shown (s .args .m) (s .args .u) (s .args .v) (s .args .w) (bits-are (s .fits .u)) (c .if1 .taken)) (omega arith) (c .before .before .before .put-next .ensures)
 
--- src/lib.rt:51:9
 put-next-requires-2 : tie.Need-put-next-requires-2
 put-next-requires-2 c κs = search needs
 
--- src/lib.rt:53:9
 same-length-2 : tie.Need-same-length-2
 same-length-2 c = search needs
 
--- src/lib.rt:53:9
 returns-2 : tie.Need-returns-2
-returns-2 c = ?
+returns-2 c =
+    let s = c .before .before .before .before .before .before .before .before .before .before .before in
+    writes-as (two-shown (s .args .m) (s .args .u) (s .args .v) (s .args .w) (bits-are (s .fits .u)) (bits-are (s .fits .v)) (c .if2 .taken)) (omega arith)
+    (writes-then (omega arith) (c .before .before .before .before .before .before .before .before .put-next .ensures) (λ i. c .before .before .before .put-next2 .ensures))
 
--- src/lib.rt:55:5
 put-next-requires-3 : tie.Need-put-next-requires-3
 put-next-requires-3 c κs = search needs
 
--- src/lib.rt:43:1
 same-length-3 : tie.Need-same-length-3
 same-length-3 c = search needs
 
--- src/lib.rt:43:1
 returns-3 : tie.Need-returns-3
-returns-3 c = ?
+returns-3 c =
+    let s = c .before .before .before .before .before .before .before .before .before .before .before .before .before .before .before in
+    writes-as
+    (three-shown (s .args .m) (s .args .u) (s .args .v) (s .args .w) (bits-are (s .fits .u)) (bits-are (s .fits .v)) (s .pre .0) (c .before .before .before .before .before .before .before .before .before .if1 .left) (c .before .before .before .before .if2 .left) (bits-are (s .fits .w)))
+    (omega arith) (writes-then (omega arith) (c .before .before .before .before .before .before .before .before .before .before .before .before .put-next .ensures) (λ i. writes-then i (c .before .before .before .before .before .before .before .put-next2 .ensures) (λ i. c .before .before .put-next3 .ensures)))
 
 pub put-numbers-spec : {M : Type 1} → statement M
 put-numbers-spec =

@@ -1,48 +1,46 @@
+-- `put_place` meets its contract: the parts of a place's line, one behind the other.
+use native.Mathlib.Omega.{arith}
+use Rattle.text.proofs.LineParts.{place-written}
 use borrow.Author.Needs.{needs}
 use Rattle.text.proofs.put_place.Statement.{statement}
 use Rattle.text.proofs.put_place.Tie as tie
-use Rattle.text.proofs.put_place.Reads as reads
-use Rattle.text.proofs.put_place.Lts as lts
-use Rattle.decimals.proofs.put_byte.Reads as put-byte-reads
-use Rattle.decimals.proofs.put_signed.Reads as put-signed-reads
-use Rattle.text.proofs.put_masks.Reads as put-masks-reads
-use Rattle.text.proofs.put_numbers.Reads as put-numbers-reads
 
--- src/lib.rt:117:9
 put-signed-requires : tie.Need-put-signed-requires
 put-signed-requires c κs = search needs
 
--- src/lib.rt:118:36
 sub-put-numbers : tie.Need-sub-put-numbers
 sub-put-numbers c = search needs
 
--- src/lib.rt:118:9
 put-numbers-requires : tie.Need-put-numbers-requires
 put-numbers-requires c κs = search needs
 
--- src/lib.rt:119:34
 sub-put-masks : tie.Need-sub-put-masks
 sub-put-masks c = search needs
 
--- src/lib.rt:119:9
 put-masks-requires : tie.Need-put-masks-requires
 put-masks-requires c κs = search needs
 
--- src/lib.rt:120:9
 put-numbers-requires-2 : tie.Need-put-numbers-requires-2
-put-numbers-requires-2 c κs = ?
+put-numbers-requires-2 c κs = (omega (arith, c .before .before .before .before .before .before .before .before .before .before .before .before .before .before .before .before .before .before .before .before .before .before .pre .0 .low), omega (arith, c .before .before .before .before .before .before .before .before .before .before .before .before .before .before .before .before .before .before .before .before .before .before .pre .1, c .before .before .before .before .before .before .before .before .before .before .before .before .put-signed .kept, c .before .before .before .before .before .before .before .put-numbers .kept, c .before .before .before .put-masks .kept, c .before .before .before .before .before .before .before .before .before .before .before .before .put-signed .ensures .end, c .before .before .before .before .before .before .before .before .before .before .before .before .put-signed .ensures .short, c .before .before .before .before .before .before .before .put-numbers .ensures .end, c .before .before .before .before .before .before .before .put-numbers .ensures .short, c .before .before .before .put-masks .ensures .end, c .before .before .before .put-masks .ensures .short))
 
--- src/lib.rt:121:5
 put-byte-requires : tie.Need-put-byte-requires
-put-byte-requires c κs = ?
+put-byte-requires c κs = omega (arith, c .before .before .before .before .before .before .before .before .before .before .before .before .before .before .before .before .before .before .before .before .before .before .before .before .before .before .pre .1, c .before .before .before .before .before .before .before .before .before .before .before .before .before .before .before .before .put-signed .kept, c .before .before .before .before .before .before .before .before .before .before .before .put-numbers .kept, c .before .before .before .before .before .before .before .put-masks .kept, c .before .before .before .put-numbers2 .kept, c .before .before .before .before .before .before .before .before .before .before .before .before .before .before .before .before .put-signed .ensures .end, c .before .before .before .before .before .before .before .before .before .before .before .before .before .before .before .before .put-signed .ensures .short, c .before .before .before .before .before .before .before .before .before .before .before .put-numbers .ensures .end, c .before .before .before .before .before .before .before .before .before .before .before .put-numbers .ensures .short, c .before .before .before .before .before .before .before .put-masks .ensures .end, c .before .before .before .before .before .before .before .put-masks .ensures .short, c .before .before .before .put-numbers2 .ensures .end, c .before .before .before .put-numbers2 .ensures .short)
 
--- src/lib.rt:112:1
 same-length : tie.Need-same-length
-same-length c = ?
+same-length c = search needs
 
--- src/lib.rt:112:1
 returns : tie.Need-returns
-returns c = ?
+returns c =
+    let s = c .before .before .before .before .before .before .before .before .before .before .before .before .before .before .before .before .before .before .before .before .before .before .before .before .before .before .before .before .before in
+    let low = c .before .before .before .before .before .before .before .before .before .before .before .before .before .before .before .before .before .before .before .before .before .before .before .before .before .before .struct-told .given in
+    let point = c .before .before .before .before .before .before .before .before .before .before .before .before .before .before .before .before .before .before .before .before .before .before .before .struct-told4 .given in
+    place-written (s .args .n) (s .args .p) (s .args .q) (omega (arith, s .pre .0 .low)) (record { sfits = low .0 .1 }) (record { sfits = low .1 .0 .1 }) (record { sfits = low .1 .1 .0 .1 }) (record { sfits = low .1 .1 .1 .0 .1 })
+    (record { sfits = point .0 .1 }) (record { sfits = point .1 .0 .1 }) (record { sfits = point .1 .1 .0 .1 }) (omega (arith, s .pre .1))
+    (c .before .before .before .before .before .before .before .before .before .before .before .before .before .before .before .before .before .before .before .put-signed .ensures)
+    (c .before .before .before .before .before .before .before .before .before .before .before .before .before .before .put-numbers .ensures)
+    (c .before .before .before .before .before .before .before .before .before .before .put-masks .ensures)
+    (c .before .before .before .before .before .before .put-numbers2 .ensures)
+    (c .before .before .put-byte .ensures)
 
 pub put-place-spec : {M : Type 1} → statement M
 put-place-spec =
