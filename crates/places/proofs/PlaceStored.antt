@@ -31,7 +31,7 @@ use Rattle.places.proofs.WordBytes.{short-back}
 -- ---- the numbers that count
 
 -- a test of the first n members of a list holds of each of them
-every-taken : {A : Type 0} (t : A → Bool) (n : ℕ) (l : List A) (k : ℕ) (d : A) → k < n → k < length l → every t (take n l) ≡ true
+pub every-taken : {A : Type 0} (t : A → Bool) (n : ℕ) (l : List A) (k : ℕ) (d : A) → k < n → k < length l → every t (take n l) ≡ true
     → t (getD l k d) ≡ true
 unfolding every
 every-taken t zero l k d h i e = absurd (omega arith)
