@@ -8,9 +8,9 @@ use lib.IntN.{ℤ, pos, negsuc, natAbs, _-ℤ_}
 use lib.Dec.{T, ltb, lit≤}
 use lib.Signed.{ltZ, mag, nonNeg}
 use mir.Syntax.{w64}
-use mir.Val.{Fits, SFits, toZ, ofZ}
+use mir.Val.{Fits, SFits, toZ}
 use mir.ValLaws.{toZ-ofZ, toZ-pos}
-use borrow.Author.Tests.{lt-ltb, le-ltb, ltb-true, ltb-false}
+use borrow.Author.Tests.{le-ltb, ltb-true, ltb-false}
 use Rattle.exact.specs.Int.{_⊖_}
 use Rattle.exact.specs.Size.{Size, Is}
 use Rattle.exact.proofs.Bits.{Holds, holds-call, holds-sub, fits-sub, back}

@@ -5,3 +5,4 @@ pub mod WordBytes
 pub mod PlaceStored
 pub mod SameNumbers
 pub mod PlaceAnswered
+pub mod TraceableFits

@@ -2,12 +2,12 @@
 use Prim.Native.Nat.{ℕ, suc, zero, _+_, _*_, _-_, _^_, _≤_, _<_}
 use native.Mathlib.Nat.{add-zero}
 use native.Mathlib.Omega.{arith}
-use mathlib.Core.Path.{_≡_, refl, sym, ap, subst, _∙_}
+use mathlib.Core.Path.{_≡_, refl, sym, ap, _∙_}
 use mathlib.Core.Bool.{Bool, true, not, _&&_}
 use mathlib.Core.List.{List, [], _∷_, _++_, append-nil, append-assoc}
 use lib.Dec.{ltb, eqb}
 use lib.IntN.{ℤ}
-use lib.ListN.{length, set, getD, take, length-append}
+use lib.ListN.{length, set, getD, take}
 use lib.Seq.{sets}
 use borrow.Author.Tests.{ltb-true, lt-ltb}
 use Rattle.exact.specs.Int.{0ℤ}
@@ -31,7 +31,7 @@ use Rattle.places.proofs.WordBytes.{short-back}
 -- ---- the numbers that count
 
 -- a test of the first n members of a list holds of each of them
-every-taken : {A : Type 0} (t : A → Bool) (n : ℕ) (l : List A) (k : ℕ) (d : A) → k < n → k < length l → every t (take n l) ≡ true
+pub every-taken : {A : Type 0} (t : A → Bool) (n : ℕ) (l : List A) (k : ℕ) (d : A) → k < n → k < length l → every t (take n l) ≡ true
     → t (getD l k d) ≡ true
 unfolding every
 every-taken t zero l k d h i e = absurd (omega arith)
