@@ -1,0 +1,3 @@
+// Trace of document 01.
+
+mod walks;
