@@ -2,3 +2,5 @@
 pub mod HeldPlaces
 pub mod RowVertices
 pub mod SimplexStep
+pub mod CrossingHeld
+pub mod StepAnswers
