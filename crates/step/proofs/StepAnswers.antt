@@ -7,15 +7,16 @@ use Rattle.curves.specs.Grid.{Place}
 use Rattle.curves.specs.Walk.{Next, go}
 use Rattle.curves.specs.Step.{Stop}
 use Rattle.paper.specs.Job.{dimension, decodePlace, openRefusal}
-use Rattle.paper.specs.Operations.{refused, answered, unless, stepIn, stepped, judgeRefusal, pointRefusal}
+use Rattle.paper.specs.Operations.{refused, answered, unless, stepIn, stepped, pointRefusal}
 use Rattle.paper.specs.Answers.{placedAs, paddedPlace, paddedNext, paddedStep}
 use Rattle.paper.specs.declared.Placed.{Placed}
-use Rattle.paper.proofs.Refusals.{unless-refused, unless-answered, first-refuses}
+use Rattle.paper.proofs.Refusals.{unless-refused, unless-answered}
 use Rattle.places.specs.Held.{placeAs}
 use Rattle.places.specs.declared.HeldPlace.{HeldPlace}
 use Rattle.job.specs.OpenJob.{JobOf}
 use Rattle.judge.specs.declared.JobPlace.{JobPlace}
 use Rattle.judge.specs.Located.{Crosses}
+use Rattle.judge.proofs.PointAnswers.{point-not-opened}
 use Rattle.step.specs.Ahead.{Leads}
 use Rattle.step.proofs.CrossingHeld.{found-place}
 
@@ -24,12 +25,6 @@ unfolding stepped paddedStep
 step-refused s p {k} e h =
     let next : Next Place Stop = stepIn s (decodePlace (dimension s) p) in
     sym (ap paddedStep (ap (λ l. unless l next) (sym e) ∙ unless-refused k next h))
-
-point-not-opened : (s p : List ℕ) → (openRefusal s ≡ 0 → ⊥) → pointRefusal s p ≡ openRefusal s
-unfolding pointRefusal judgeRefusal
-point-not-opened s p h =
-    let e = first-refuses (openRefusal s) _ h in
-    first-refuses (judgeRefusal s p) _ (λ z. h (sym e ∙ z)) ∙ e
 
 pub step-unopened : (s p : List ℕ) {k : ℕ} → k ≡ openRefusal s → (k ≡ 0 → ⊥) → refused k ≡ paddedStep (stepped s p)
 step-unopened s p e h = step-refused s p (e ∙ sym (point-not-opened s p (λ z. h (e ∙ z)))) h
