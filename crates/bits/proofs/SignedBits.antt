@@ -13,7 +13,7 @@ use mir.ValLaws.{toZ-ofZ, toZ-pos}
 use borrow.Author.Tests.{le-ltb, ltb-true, ltb-false}
 use Rattle.exact.specs.Int.{_⊖_}
 use Rattle.exact.specs.Size.{Size, Is}
-use Rattle.exact.proofs.Bits.{Holds, holds-call, holds-sub, fits-sub, back}
+use Rattle.exact.proofs.Bits.{holds-call, holds-sub, fits-sub, back}
 use Rattle.exact.proofs.Linear.{diff, diff-eq, pos-diff, negsuc-diff}
 use Rattle.exact.proofs.SizeLaws.{size-pos, size-weaken}
 use Rattle.paper.specs.Bytes.{signed}
@@ -78,13 +78,13 @@ module _ (half u : ℕ) (p : PowerOfTwo half) where
       pub flip-fits : bitXor u half < 9223372036854775808
       flip-fits = omega (arith, flip-small)
 
-      flip-holds : Holds 4294967296 (toZ w64 (bitXor u half)) (pos (bitXor u half))
+      flip-holds : Is 4294967296 (pos (bitXor u half)) (toZ w64 (bitXor u half))
       flip-holds = record {
         is = toZ-pos w64 (bitXor u half) flip-fits;
         size = size-weaken (size-pos (bitXor u half)) (omega (arith, flip-small));
       }
 
-      half-holds : Holds 4294967296 (toZ w64 half) (pos half)
+      half-holds : Is 4294967296 (pos half) (toZ w64 half)
       half-holds = record { is = toZ-pos w64 half (omega arith); size = size-weaken (size-pos half) (omega arith) }
 
       pub signed-fits : SFits w64 (toZ w64 (bitXor u half) -ℤ toZ w64 half)

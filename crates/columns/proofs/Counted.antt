@@ -6,10 +6,10 @@ use Prim.Native.Nat.{ℕ, suc, zero, _+_, _≤_, _<_}
 use native.Mathlib.Omega.{arith}
 use lib.Dec.{eqb}
 use borrow.Author.Tests.{eqb-true, eqb-false}
+use Rattle.exact.proofs.AndTests.{and-true}
 use Rattle.exact.specs.Crossed.{countFrom, remove}
 use Rattle.exact.proofs.CountFrom.{map-countFrom-ext}
 use Rattle.curves.specs.Step.{every}
-use Rattle.paper.proofs.Tests.{and-true}
 
 and-false : (a b : Bool) → b ≡ false → (a && b) ≡ false
 and-false true b e = e

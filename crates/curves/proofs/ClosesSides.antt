@@ -5,12 +5,12 @@ use Prim.Native.Nat.{ℕ, _<_}
 use mathlib.Core.Path.{subst}
 use mathlib.Core.Logic.{_↔_}
 use lib.Dec.{ltb}
+use Rattle.exact.proofs.AndTests.{and-left}
 use Rattle.curves.specs.Grid.{Facet, Place, facetOk, placeOk}
 use Rattle.curves.specs.Curve.{ClosesAtPlaces}
 use Rattle.curves.specs.Step.{Field}
 use Rattle.curves.specs.Joined.{Shares, Joined, Traceable, SideReadable, Closes}
 use Rattle.curves.specs.GridDemand.{facetOf}
-use Rattle.curves.proofs.OrderTests.{and-left}
 use Rattle.curves.proofs.IncidenceSides.{sided, sided-ok}
 use Rattle.curves.proofs.WalkJoined.{joined-ok}
 use Rattle.curves.proofs.GridStep.{accepted, accepted-traceable, traceable-side}

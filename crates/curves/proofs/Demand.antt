@@ -7,13 +7,13 @@ use mathlib.Core.List.{List, map}
 use lib.IntN.{ℤ}
 use lib.ListN.{length}
 use lib.Dec.{ltb}
+use Rattle.exact.proofs.AndTests.{and-left}
 use Rattle.curves.specs.Grid.{Vertex, Place, facetVertices, plus, facetOk, placeOk}
 use Rattle.curves.specs.Walk.{loop, stopped, full}
 use Rattle.curves.specs.Curve.{_∈_}
 use Rattle.curves.specs.Step.{Stop, Field, every, readableAll}
 use Rattle.curves.specs.Joined.{Traceable, Closes, HasFacets}
 use Rattle.curves.specs.GridDemand.{traceOf, GridDemand3}
-use Rattle.curves.proofs.OrderTests.{and-left}
 use Rattle.curves.proofs.Vertices.{facet-low-length}
 use Rattle.curves.proofs.Finite.{within, facetsIn, facetsIn-listed}
 use Rattle.curves.proofs.WalkTrace.{loop-not-full, loop-not-stopped, stopped-not-full}

@@ -10,10 +10,10 @@ use lib.ListN.{length}
 use lib.Dec.{eqb, ltb}
 use lib.Signed.{leZ}
 use borrow.Author.Tests.{leb-true, eqb-true}
+use Rattle.exact.proofs.AndTests.{and-left, and-right, and-true}
 use Rattle.exact.specs.Crossed.{countFrom}
 use Rattle.curves.specs.Grid.{Vertex, Facet, facetOk, chain, holds, under}
 use Rattle.curves.specs.Curve.{_∈_}
-use Rattle.curves.proofs.OrderTests.{and-left, and-right, both}
 use Rattle.curves.proofs.Listed.{countFrom-listed, pairs, pairs-listed, listsUnder, listsUnder-listed}
 
 -- ---- the definitions
@@ -85,7 +85,7 @@ pub chain-under : (n b : ℕ) (ms : List ℕ) → chain n b ms ≡ true → unde
 unfolding chain under
 chain-under n b [] e = refl
 chain-under n b (m ∷ ms) e =
-    both (and-left (ltb m (2 ^ n)) (holds n m b && (not (eqb m b) && chain n m ms)) e)
+    and-true (and-left (ltb m (2 ^ n)) (holds n m b && (not (eqb m b) && chain n m ms)) e)
     (chain-under n m ms
     (and-right (not (eqb m b)) (chain n m ms)
     (and-right (holds n m b) (not (eqb m b) && chain n m ms)

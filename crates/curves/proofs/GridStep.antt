@@ -7,6 +7,7 @@ use mathlib.Core.List.{List, [], _∷_}
 use native.Mathlib.Omega.{arith}
 use lib.Dec.{ltb}
 use borrow.Author.Tests.{lt-ltb}
+use Rattle.exact.proofs.AndTests.{and-left, and-right, and-true}
 use Rattle.exact.specs.Det.{Column}
 use Rattle.exact.specs.Crossed.{crossed, remove, exit}
 use Rattle.exact.specs.Simplex as Columns
@@ -15,7 +16,7 @@ use Rattle.curves.specs.Grid.{Vertex, Place, Incidence, facetVertices, v
 use Rattle.curves.specs.Walk.{stop, go}
 use Rattle.curves.specs.Step.{edge, limit, every, Field, column, columns, crossedFacet, readableAll, traceable, onward, stepThrough, step}
 use Rattle.curves.specs.Joined.{Traceable}
-use Rattle.curves.proofs.OrderTests.{and-left, and-right, both, order-length}
+use Rattle.curves.proofs.OrderTests.{order-length}
 use Rattle.curves.proofs.Vertices.{length-vertices, facet-vertices}
 use Rattle.curves.proofs.IncidenceOf.{place-formed, Valid, incidence-of-place, place-of-ok}
 
@@ -25,12 +26,12 @@ pub every-remove : {A : Type 0} (t : A → Bool) (i : ℕ) (xs : List A) → eve
 unfolding every remove
 every-remove t i [] e = refl
 every-remove t zero (x ∷ xs) e = and-right (t x) (every t xs) e
-every-remove t (suc i) (x ∷ xs) e = both (and-left (t x) (every t xs) e) (every-remove t i xs (and-right (t x) (every t xs) e))
+every-remove t (suc i) (x ∷ xs) e = and-true (and-left (t x) (every t xs) e) (every-remove t i xs (and-right (t x) (every t xs) e))
 
 pub readable-remove : (φ : Field) (i : ℕ) (vs : List Vertex) → readableAll φ vs ≡ true → readableAll φ (remove i vs) ≡ true
 unfolding readableAll
 readable-remove φ i vs e =
-    both (every-remove (φ .inBox) i vs (and-left (every (φ .inBox) vs) (every (φ .readable) vs) e))
+    and-true (every-remove (φ .inBox) i vs (and-left (every (φ .inBox) vs) (every (φ .readable) vs) e))
     (every-remove (φ .readable) i vs (and-right (every (φ .inBox) vs) (every (φ .readable) vs) e))
 
 -- ---- a place that Step does not refuse
@@ -51,12 +52,12 @@ accepted n φ p o =
 
 pub accepted-traceable : (n : ℕ) (φ : Field) (p : Place) → Accepted n φ p → Traceable n φ p
 unfolding traceable
-accepted-traceable n φ p a = both (a .form) (both (a .readable) (a .crosses))
+accepted-traceable n φ p a = and-true (a .form) (and-true (a .readable) (a .crosses))
 
 pub turn-ok : (n : ℕ) (p : Place) → placeOk n p ≡ true → placeOk n (turn p) ≡ true
 unfolding placeOk turn
 turn-ok n p h =
-    both (and-left (facetOk n (p .facet)) (ltb (p .side) 2) h) (lt-ltb (1 - p .side) 2 (omega arith))
+    and-true (and-left (facetOk n (p .facet)) (ltb (p .side) 2) h) (lt-ltb (1 - p .side) 2 (omega arith))
 
 pub turn-traceable : (n : ℕ) (φ : Field) (p : Place) → Traceable n φ p → Traceable n φ (turn p)
 unfolding turn
@@ -148,7 +149,7 @@ step-goes n φ p y e = byTests _ _ refl refl
         let q : stop limit ≡ go y = sym (step-tests n φ p true false h k) ∙ e in
         let z : _≡_ {A = ℕ} 0 1 = cc in
         absurd (let bad : ⊥ = omega arith in bad)
-    byTests true true h k = record { readable = both h k; target = cc (step-tests n φ p true true h k) }
+    byTests true true h k = record { readable = and-true h k; target = cc (step-tests n φ p true true h k) }
 
 pub goes-step : (n : ℕ) (φ : Field) (p : Place) → AllReadable φ (incidence n p) →
     step n φ p ≡ go (turn (placeOf (without (incidence n p) (exitOf n φ (incidence n p)))))

@@ -9,10 +9,10 @@ use lib.Dec.{eqb, ltb}
 use lib.Count.{ones, ones-le}
 use lib.Pow.{pow-pos}
 use borrow.Author.Tests.{eqb-true, ltb-true, lt-ltb, le-ltb}
+use Rattle.exact.proofs.AndTests.{and-left, and-right}
 use Rattle.exact.specs.Crossed.{remove}
 use Rattle.exact.proofs.Position.{length-remove}
 use Rattle.curves.specs.Grid.{Vertex, Place, Incidence, down, chain, masksFrom, lastMask, placeAt, placeOf, incidence, isOrder, facetOk, placeOk}
-use Rattle.curves.proofs.OrderTests.{and-left, and-right}
 use Rattle.curves.proofs.Vertices.{up-down, length-down}
 use Rattle.curves.proofs.MaskBits.{bit, ones-zero}
 use Rattle.curves.proofs.MaskAxes.{Power, one-axis, ones-complement, filled-bit}

@@ -8,10 +8,11 @@ use lib.ListN.{length}
 use lib.Dec.{ltb}
 use lib.Pow.{pow-pos}
 use borrow.Author.Tests.{eq-eqb, lt-ltb}
+use Rattle.exact.proofs.AndTests.{and-true}
 use Rattle.exact.specs.Crossed.{remove}
 use Rattle.exact.proofs.Position.{length-remove}
 use Rattle.curves.specs.Grid.{Vertex, up, chain, masksFrom, sideOf, placeAt, isOrder, facetOk, placeOk}
-use Rattle.curves.proofs.OrderTests.{both, order-length}
+use Rattle.curves.proofs.OrderTests.{order-length}
 use Rattle.curves.proofs.Vertices.{length-up}
 use Rattle.curves.proofs.MaskOrder.{Fresh, next, order-fresh, fresh-zero}
 use Rattle.curves.proofs.MaskChain.{fresh-chain, chain-remove}
@@ -42,7 +43,7 @@ side-of-under (suc i) (a ∷ o) = side-of-under i o
 pub place-form : (n : ℕ) (c : Vertex) (ms : List ℕ) (s : ℕ) → length c ≡ n → suc (length ms) ≡ n → chain n 0 ms ≡ true → s < 2
     → placeOk n (place c ms s) ≡ true
 unfolding placeOk facetOk
-place-form n c ms s p q h l = both (both (eq-eqb (length c) n p) (both (eq-eqb (suc (length ms)) n q) h)) (lt-ltb s 2 l)
+place-form n c ms s p q h l = and-true (and-true (eq-eqb (length c) n p) (and-true (eq-eqb (suc (length ms)) n q) h)) (lt-ltb s 2 l)
 
 pub place-ok : (n : ℕ) (c : Vertex) (o : List ℕ) (i : ℕ) → 0 < n → isOrder n o ≡ true → length c ≡ n → i ≤ n
     → placeOk n (placeAt c o i) ≡ true

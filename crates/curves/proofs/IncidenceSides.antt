@@ -11,11 +11,12 @@ use lib.IntN.{ℤ}
 use lib.ListN.{length}
 use lib.Pow.{pow-pos}
 use borrow.Author.Tests.{lt-ltb}
+use Rattle.exact.proofs.AndTests.{and-true}
 use Rattle.exact.specs.Int.{_⊕_, neg, 0ℤ, 1ℤ}
 use Rattle.exact.proofs.Ring.{add-assoc, zero-add, neg-add}
 use Rattle.exact.specs.Crossed.{remove}
 use Rattle.curves.specs.Grid.{Vertex, Facet, Place, Incidence, up, masksFrom, placeAt, placeOf, incidence, isOrder, facetOk, placeOk}
-use Rattle.curves.proofs.OrderTests.{both, order-length}
+use Rattle.curves.proofs.OrderTests.{order-length}
 use Rattle.curves.proofs.MaskOrder.{Fresh, next, order-fresh}
 use Rattle.curves.proofs.IncidenceOf.{place-formed, place-incidence, Valid, incidence-ok, incidence-of-place, place-of-ok}
 
@@ -79,7 +80,7 @@ sided f s = record { facet = f; side = s }
 
 pub sided-ok : (n : ℕ) (f : Facet) (s : ℕ) → facetOk n f ≡ true → s < 2 → placeOk n (sided f s) ≡ true
 unfolding placeOk
-sided-ok n f s h l = both h (lt-ltb s 2 l)
+sided-ok n f s h l = and-true h (lt-ltb s 2 l)
 
 -- the simplex on each side of a well-formed facet has that facet
 pub side-facet : (n : ℕ) (f : Facet) (s : ℕ) → facetOk n f ≡ true → s < 2

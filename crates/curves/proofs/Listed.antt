@@ -10,11 +10,12 @@ use native.Mathlib.Omega.{arith}
 use lib.ListN.{length}
 use lib.Dec.{eqb}
 use borrow.Author.Tests.{eqb-true, eqb-false}
+use Rattle.exact.proofs.AndTests.{and-left, and-right}
 use Rattle.exact.specs.Crossed.{countFrom}
 use Rattle.curves.specs.Grid.{under}
 use Rattle.curves.specs.Curve.{_∈_}
 use Rattle.curves.specs.Step.{every}
-use Rattle.curves.proofs.OrderTests.{and-left, and-right, under-head, under-tail}
+use Rattle.curves.proofs.OrderTests.{under-head, under-tail}
 
 pub countFrom-listed : (k m a : ℕ) → k ≤ a → a < k + m → a ∈ countFrom k m
 unfolding countFrom

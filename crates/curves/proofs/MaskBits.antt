@@ -7,8 +7,8 @@ use native.Mathlib.Omega.{arith}
 use lib.Dec.{leb}
 use lib.Count.{ones, ones-step}
 use borrow.Author.Tests.{leb-true, le-leb}
+use Rattle.exact.proofs.AndTests.{and-left, and-right, and-true}
 use Rattle.curves.specs.Grid.{holds}
-use Rattle.curves.proofs.OrderTests.{and-left, and-right, both}
 
 -- ---- bits
 
@@ -68,7 +68,7 @@ add-under (suc n) (suc a) m l u h =
 
 pub holds-make : (n m l : ℕ) → l % 2 ≤ m % 2 → holds n (m / 2) (l / 2) ≡ true → holds (suc n) m l ≡ true
 unfolding holds
-holds-make n m l p q = both (le-leb (l % 2) (m % 2) p) q
+holds-make n m l p q = and-true (le-leb (l % 2) (m % 2) p) q
 
 pub holds-low : (n m l : ℕ) → holds (suc n) m l ≡ true → l % 2 ≤ m % 2
 unfolding holds

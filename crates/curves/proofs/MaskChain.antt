@@ -10,9 +10,9 @@ use lib.Dec.{eqb, ltb}
 use lib.Count.{ones}
 use lib.Pow.{pow-pos}
 use borrow.Author.Tests.{ltb-true, lt-ltb, eqb-false, not-true, ne-eqb}
+use Rattle.exact.proofs.AndTests.{and-left, and-right, and-true}
 use Rattle.exact.specs.Crossed.{remove}
 use Rattle.curves.specs.Grid.{holds, chain, masksFrom, lastMask}
-use Rattle.curves.proofs.OrderTests.{and-left, and-right, both}
 use Rattle.curves.proofs.MaskBits.{bit, add-under, bit-add-other, holds-add, holds-trans, holds-le, holds-ones, holds-bit, holds-bits}
 use Rattle.curves.proofs.MaskAxes.{Power, Powers, no-ones, one-axis, two-axes}
 use Rattle.curves.proofs.MaskOrder.{Fresh, none, next}
@@ -41,7 +41,7 @@ chain-link n before m ms h =
 link-chain : (n before m : ℕ) (ms : List ℕ) → Link n before m ms → chain n before (m ∷ ms) ≡ true
 unfolding chain
 link-chain n before m ms k =
-    both (lt-ltb m (2 ^ n) (k .bound)) (both (k .held) (both (ap not (ne-eqb m before (k .changed))) (k .rest)))
+    and-true (lt-ltb m (2 ^ n) (k .bound)) (and-true (k .held) (and-true (ap not (ne-eqb m before (k .changed))) (k .rest)))
 
 pub chain-none : (n before : ℕ) → chain n before [] ≡ true
 unfolding chain

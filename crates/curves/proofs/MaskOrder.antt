@@ -11,8 +11,9 @@ use lib.Dec.{eqb}
 use lib.Count.{ones}
 use lib.Pow.{pow-pos}
 use borrow.Author.Tests.{lt-ltb, eq-eqb, ne-eqb}
+use Rattle.exact.proofs.AndTests.{and-left, and-right, and-true}
 use Rattle.curves.specs.Grid.{absent, distinct, under, isOrder}
-use Rattle.curves.proofs.OrderTests.{and-left, and-right, both, order-under, order-distinct, under-head, under-tail}
+use Rattle.curves.proofs.OrderTests.{order-under, order-distinct, under-head, under-tail}
 use Rattle.curves.proofs.MaskBits.{bit, bit-zero, bit-add-same, bit-add-other, ones-add, ones-zero, add-under}
 use Rattle.curves.proofs.MaskAxes.{all-ones}
 
@@ -54,23 +55,23 @@ order-fresh n o h = distinct-fresh n o (order-under n o h) (order-distinct n o h
 pub fresh-under : {n m : ℕ} {o : List ℕ} → Fresh n m o → under n o ≡ true
 unfolding under
 fresh-under none = refl
-fresh-under {n} (next {a = a} l b r) = both (lt-ltb a n l) (fresh-under r)
+fresh-under {n} (next {a = a} l b r) = and-true (lt-ltb a n l) (fresh-under r)
 
 fresh-absent : {n m : ℕ} {o : List ℕ} (b : ℕ) → bit b m ≡ 1 → Fresh n m o → absent b o ≡ true
 unfolding absent
 fresh-absent b e none = refl
 fresh-absent {n} {m} b e (next {a = a} l z r) =
     let other : ¬ (b ≡ a) = λ q. omega (arith, ap (λ (x : ℕ). bit x m) q) in
-    both (ap not (ne-eqb b a other)) (fresh-absent b (bit-add-other b a m other z ∙ e) r)
+    and-true (ap not (ne-eqb b a other)) (fresh-absent b (bit-add-other b a m other z ∙ e) r)
 
 pub fresh-distinct : {n m : ℕ} {o : List ℕ} → Fresh n m o → distinct o ≡ true
 unfolding distinct
 fresh-distinct none = refl
-fresh-distinct {n} {m} (next {a = a} l z r) = both (fresh-absent a (bit-add-same a m z) r) (fresh-distinct r)
+fresh-distinct {n} {m} (next {a = a} l z r) = and-true (fresh-absent a (bit-add-same a m z) r) (fresh-distinct r)
 
 pub fresh-order : (n : ℕ) (o : List ℕ) → Fresh n 0 o → length o ≡ n → isOrder n o ≡ true
 unfolding isOrder
-fresh-order n o f e = both (eq-eqb (length o) n e) (both (fresh-under f) (fresh-distinct f))
+fresh-order n o f e = and-true (eq-eqb (length o) n e) (and-true (fresh-under f) (fresh-distinct f))
 
 -- ---- parts and other orders of a fresh list
 

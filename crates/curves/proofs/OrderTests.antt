@@ -2,23 +2,14 @@
 -- They are equations between tests where they can be, so that each serves both ways.
 use Prim.Native.Nat.{ℕ, suc, zero, _<_}
 use mathlib.Core.Path.{_≡_, refl, sym, ap, _∙_}
-use mathlib.Core.Bool.{Bool, true, false, not, _&&_, and-eq-true-iff}
+use mathlib.Core.Bool.{Bool, true, false, not, _&&_}
 use mathlib.Core.List.{List, [], _∷_, _++_}
 use native.Mathlib.Numerals.{add-one}
 use lib.ListN.{length, length-append}
 use lib.Dec.{eqb, ltb}
 use borrow.Author.Tests.{eqb-true, eqb-false, eq-eqb, ne-eqb, ltb-true, not-true}
+use Rattle.exact.proofs.AndTests.{and-left, and-right, and-true}
 use Rattle.curves.specs.Grid.{absent, distinct, under, isOrder, exchange}
-
--- ---- two tests at once
-pub and-left : (a b : Bool) → a && b ≡ true → a ≡ true
-and-left a b e = and-eq-true-iff a b .0 e .0
-
-pub and-right : (a b : Bool) → a && b ≡ true → b ≡ true
-and-right a b e = and-eq-true-iff a b .0 e .1
-
-pub both : {a b : Bool} → a ≡ true → b ≡ true → a && b ≡ true
-both {a} {b} p q = and-eq-true-iff a b .1 (p, q)
 
 -- ---- the parts of an order
 pub order-length : (n : ℕ) (o : List ℕ) → isOrder n o ≡ true → length o ≡ n

@@ -7,11 +7,12 @@ use mathlib.Core.List.{List, [], _∷_, List·Memᴰ·head, List·Memᴰ·tail, 
 use mathlib.Core.Logic.{_⊎_, inl, inr, ⊎-elim}
 use lib.ListN.{length}
 use borrow.Author.Tests.{not-true}
+use Rattle.exact.proofs.AndTests.{and-left, and-right}
 use Rattle.exact.specs.Crossed.{countFrom}
 use Rattle.curves.specs.Grid.{absent, distinct, under, isOrder, sameMasks, orders}
 use Rattle.curves.specs.Curve.{_∈_, NoDup, none, more}
 use Rattle.curves.specs.Step.{every}
-use Rattle.curves.proofs.OrderTests.{and-left, and-right, order-length, order-under}
+use Rattle.curves.proofs.OrderTests.{order-length, order-under}
 use Rattle.curves.proofs.SameFacet.{sameMasks-sound, sameMasks-complete}
 use Rattle.curves.proofs.Listed.{pairs, listsUnder, listsUnder-listed, every-listed}
 

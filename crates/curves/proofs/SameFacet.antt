@@ -10,8 +10,8 @@ use lib.IntN.{ℤ, pos, negsuc}
 use lib.Dec.{eqb}
 use lib.Signed.{leZ}
 use borrow.Author.Tests.{leb-true, le-leb, eqb-true, eqb-false, eq-eqb}
+use Rattle.exact.proofs.AndTests.{and-left, and-right, and-true}
 use Rattle.curves.specs.Grid.{Vertex, Facet, Place, sameVertex, sameMasks, sameFacet, turn}
-use Rattle.curves.proofs.OrderTests.{and-left, and-right, both}
 
 -- ---- whole numbers
 pub leZ-refl : (x : ℤ) → leZ x x ≡ true
@@ -69,7 +69,7 @@ sameFacet-sound f g e =
 
 pub sameFacet-complete : (f g : Facet) → f ≡ g → sameFacet f g ≡ true
 unfolding sameFacet
-sameFacet-complete f g e = rw (← e) (both (sameVertex-refl (f .low)) (sameMasks-refl (f .masks)))
+sameFacet-complete f g e = rw (← e) (and-true (sameVertex-refl (f .low)) (sameMasks-refl (f .masks)))
 
 pub sameMasks-complete : (l m : List ℕ) → l ≡ m → sameMasks l m ≡ true
 sameMasks-complete l m e = rw (← e) (sameMasks-refl l)

@@ -9,12 +9,13 @@ use mathlib.Core.Logic.{⊎-elim}
 use native.Mathlib.Omega.{arith}
 use lib.ListN.{length}
 use borrow.Author.Tests.{eqb-true}
+use Rattle.exact.proofs.AndTests.{and-left}
 use Rattle.exact.specs.Crossed.{remove}
 use Rattle.exact.proofs.Ring.{add-zero, add-neg, neg-add, add-assoc, sub-eq}
 use Rattle.exact.proofs.Simplex.{remove-map}
 use Rattle.curves.specs.Grid.{Vertex, Facet, up, down, plus, vertices, absent, distinct, isOrder, masksFrom, placeAt, facetVertices, facetOk}
 use Rattle.curves.proofs.MaskBits.{bit, bit-zero, half-add, parity-add, bit-add-other}
-use Rattle.curves.proofs.OrderTests.{and-left, order-length, order-distinct, distinct-head, distinct-tail, absent-head, absent-tail}
+use Rattle.curves.proofs.OrderTests.{order-length, order-distinct, distinct-head, distinct-tail, absent-head, absent-tail}
 
 -- ---- one up and one down
 pub down-up : (a : ℕ) (v : Vertex) → down a (up a v) ≡ v

@@ -7,10 +7,10 @@ use lib.IntN.{ℤ}
 use lib.Dec.{lit≤}
 use lib.ListN.{getD}
 use Rattle.exact.specs.Int.{0ℤ, 1ℤ}
-use Rattle.exact.specs.Size.{Size}
+use Rattle.exact.specs.Size.{Size, Is}
 use Rattle.exact.specs.Det.{det}
 use Rattle.exact.proofs.SizeLaws.{size-pos, size-weaken, size-sub, size-mul}
-use Rattle.exact.proofs.Bits.{Holds, holds-call, back, back-is}
+use Rattle.exact.proofs.Bits.{holds-call, back, back-is}
 use Rattle.exact.proofs.CountFrom.{getD-map-countFrom}
 use Rattle.exact.proofs.SmallDeterminants.{det-two}
 use Rattle.bits.specs.Axes.{Axes}
@@ -40,24 +40,24 @@ entry-size m cells w l (suc k) v = w .entries (3 * v + k)
 -- what a call of `entry` gives
 pub entry-held :
     {m : ℕ} {cells : List ℤ} → CellsWithin m cells → 1 ≤ m → m ≤ 2 ^ 63 - 1 → (r v : ℕ) {z : ℤ} → z ≡ entryAt cells r v
-    → Holds m (back z) (entryAt cells r v)
+    → Is m (entryAt cells r v) (back z)
 entry-held {m} {cells} w l h r v e = holds-call (record { is = e; size = entry-size m cells w l r v }) h
 
 -- an entry of a determinant of two rows, and one of three
 pub entry-of-two :
-    {cells : List ℤ} → CellsWithin (entryLimit 3) cells → (r v : ℕ) {z : ℤ} → z ≡ entryAt cells r v → Holds (2 ^ 28) (back z) (entryAt cells r v)
+    {cells : List ℤ} → CellsWithin (entryLimit 3) cells → (r v : ℕ) {z : ℤ} → z ≡ entryAt cells r v → Is (2 ^ 28) (entryAt cells r v) (back z)
 unfolding entryLimit
 entry-of-two w r v e = entry-held w (lit≤ tt) (lit≤ tt) r v e
 
 pub entry-of-three :
-    {cells : List ℤ} → CellsWithin (entryLimit 4) cells → (r v : ℕ) {z : ℤ} → z ≡ entryAt cells r v → Holds (2 ^ 19) (back z) (entryAt cells r v)
+    {cells : List ℤ} → CellsWithin (entryLimit 4) cells → (r v : ℕ) {z : ℤ} → z ≡ entryAt cells r v → Is (2 ^ 19) (entryAt cells r v) (back z)
 unfolding entryLimit
 entry-of-three w r v e = entry-held w (lit≤ tt) (lit≤ tt) r v e
 
 -- what a call of `two_rows` gives within a determinant of three rows
 pub two-rows-of-three :
     {cells : List ℤ} → CellsWithin (entryLimit 4) cells → (r s a b : ℕ) {z : ℤ} → z ≡ det (entryAt cells r ∷ entryAt cells s ∷ []) (a ∷ b ∷ [])
-    → Holds (2 ^ 39) (back z) (det (entryAt cells r ∷ entryAt cells s ∷ []) (a ∷ b ∷ []))
+    → Is (2 ^ 39) (det (entryAt cells r ∷ entryAt cells s ∷ []) (a ∷ b ∷ [])) (back z)
 unfolding entryLimit
 two-rows-of-three {cells} w r s a b e =
     let size : (k v : ℕ) → Size (2 ^ 19) (entryAt cells k v) = entry-size (2 ^ 19) cells w (lit≤ tt) in

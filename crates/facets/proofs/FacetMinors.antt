@@ -17,7 +17,7 @@ use Rattle.exact.specs.Crossed.{countFrom, coefficient, remove}
 use Rattle.exact.specs.Minors.{alternate, skip, sumTo}
 use Rattle.exact.proofs.Ring.{sub-eq, zero-add}
 use Rattle.exact.proofs.SizeLaws.{size-pos, size-weaken}
-use Rattle.exact.proofs.Bits.{Holds, holds-call, back, fits-add, fits-sub, holds-add, holds-sub}
+use Rattle.exact.proofs.Bits.{holds-call, back, fits-add, fits-sub, holds-add, holds-sub}
 use Rattle.exact.proofs.Sums.{sumTo-last}
 use Rattle.exact.proofs.Position.{skip-le}
 use Rattle.exact.proofs.Rows.{row}
@@ -196,7 +196,7 @@ module _ (n : ℕ) (cells : List ℤ) (h : Cells n cells) (out : ℕ) (ho : out 
     cofactor-even even =
         subst (λ z. Is coefficientLimit z (back m)) (sym (is-cofactor ∙ alternate-even (i + j) (facetMinor n cells out i j) even)) (holds-call e (lit≤ tt))
 
-    nought : Holds 0 (pos 0) 0ℤ
+    nought : Is 0 0ℤ (pos 0)
     nought = record { is = refl; size = size-pos 0 }
 
     pub opposite-fits : SFits w64 (pos 0 -ℤ back m)

@@ -8,6 +8,7 @@ use native.Mathlib.Nat.{mul-suc, le-refl}
 use lib.ListN.{length, take, drop, length-drop}
 use lib.Seq.{length-take-le, take-all}
 use borrow.Author.Tests.{eq-eqb}
+use Rattle.exact.proofs.AndTests.{and-left, and-right}
 use Rattle.curves.specs.Grid.{Place, facetVertices}
 use Rattle.curves.specs.Curve.{_∈_}
 use Rattle.curves.specs.Step.{every, readableAll}
@@ -18,7 +19,6 @@ use Rattle.paper.specs.Values.{fieldOf}
 use Rattle.paper.specs.Operations.{facetOf, placeBad, facetRefusal, crossedIn, judgeRefusal, pointRefusal}
 use Rattle.paper.specs.Listing.{placeLines}
 use Rattle.paper.specs.Demand3.{readPlaces}
-use Rattle.paper.proofs.Tests.{and-left, and-right}
 use Rattle.paper.proofs.Refusals.{first-passes, refuse-later}
 use Rattle.paper.proofs.Opens.{Opens}
 use Rattle.paper.proofs.WithStart.{opens-back}

@@ -6,9 +6,9 @@ use mathlib.Core.Bool.{Bool, true, false, cond, _&&_, _||_}
 use lib.Dec.{eqb, ltb}
 use lib.Count.{ones, onesIn}
 use borrow.Author.Tests.{eqb-true, ltb-true}
+use Rattle.exact.proofs.AndTests.{and-left, and-right}
 use Rattle.exact.specs.Minors.{skip}
 use Rattle.curves.specs.Grid.{placeAt, masksFrom, sideOf, orders}
-use Rattle.curves.proofs.OrderTests.{and-left, and-right}
 use Rattle.paper.specs.Job.{allFrom}
 use Rattle.orders.specs.Table.{orderAt, axisAt, vertexMask, InTable}
 use Rattle.orders.specs.Facets.{sideAt, facetMask}

@@ -9,11 +9,11 @@ use lib.Dec.{leb, ltb, eqb, lit<}
 use lib.ListN.{length, take, drop, getD, length-take, length-drop, List·getD-eq-default}
 use lib.Seq.{getD-take, getD-drop}
 use borrow.Author.Tests.{ltb-true, ltb-false, leb-true, eqb-true, eqb-false, eq-eqb, ne-eqb, not-false}
+use Rattle.exact.proofs.AndTests.{and-left, and-right}
 use Rattle.paper.specs.Bytes.{byte}
 use Rattle.paper.specs.Limits.{termLimit}
 use Rattle.paper.specs.Job.{dimension, entryOffset, entryLength, contentsEnd, polynomialLengthOk, lengthOk, entriesOk, contentsOk, body, termCount, openRefusal}
 use Rattle.paper.specs.Operations.{bodyRefusal, bodyPart}
-use Rattle.paper.proofs.Tests.{and-left, and-right}
 use Rattle.paper.proofs.Refusals.{not-refused, neither-refused, part-refused, part-given}
 use Rattle.paper.proofs.Opens.{Opens, opens, opens-range}
 

@@ -11,6 +11,7 @@ use lib.Dec.{eqb, lt→ltb, ltb→lt}
 use borrow.Author.Tests.{eqb-true}
 use lib.Signed.{_≤ℤ_, _<ℤ_, ≤ℤ-refl, clashℤ}
 use lib.ListN.{length}
+use Rattle.exact.proofs.AndTests.{and-left, and-right}
 use Rattle.exact.specs.Int.{0ℤ}
 use Rattle.exact.specs.Sign.{positive, sign}
 use Rattle.exact.specs.Crossed.{countFrom, crossed}
@@ -21,7 +22,6 @@ use Rattle.paper.specs.Bytes.{byte, signedWord}
 use Rattle.paper.specs.Job.{dimension, body, decodePlace}
 use Rattle.paper.specs.Values.{rawSum, valueOf, sums, fieldOf}
 use Rattle.paper.specs.Operations.{answered, crossedIn, facetOf, judgeRefusal, judged}
-use Rattle.paper.proofs.Tests.{and-left, and-right}
 use Rattle.paper.proofs.Refusals.{answered-inv, unless-answered}
 
 -- one value is above 0 and the other is 0 or below

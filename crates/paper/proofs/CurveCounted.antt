@@ -7,6 +7,7 @@ use mathlib.Core.List.{List, [], _∷_, map}
 use lib.IntN.{ℤ}
 use lib.ListN.{length}
 use lib.Signed.{leZ}
+use Rattle.exact.proofs.AndTests.{and-left, and-right, and-true}
 use Rattle.exact.specs.Crossed.{countFrom}
 use Rattle.curves.specs.Grid.{Vertex, Place}
 use Rattle.curves.specs.Walk.{Verdict, loop, stopped, full}
@@ -19,7 +20,6 @@ use Rattle.paper.specs.Job.{dimension, body, lowEnd, highEnd}
 use Rattle.paper.specs.Values.{insideFrom, fieldOf}
 use Rattle.paper.specs.Operations.{startOf, traceRefusal}
 use Rattle.paper.specs.Demand3.{CurveHas, CurveCloses}
-use Rattle.paper.proofs.Tests.{and-left, and-right, and-true}
 use Rattle.paper.proofs.Opens.{opens-range}
 use Rattle.paper.proofs.StartTraceable.{trace-opens, start-traceable}
 

@@ -10,6 +10,7 @@ use lib.ListN.{length, drop, getD, length-append, drop-of-length-le}
 use lib.Seq.{getD-drop, drop-drop, drop-at, drop-cons}
 use lib.Dec.{ltb}
 use borrow.Author.Tests.{ltb-true, lt-ltb}
+use Rattle.exact.proofs.AndTests.{and-left, and-right, and-true}
 use Rattle.exact.specs.Crossed.{countFrom}
 use Rattle.curves.specs.Grid.{Vertex, Place, placeOk, under}
 use Rattle.curves.specs.Step.{every}
@@ -19,7 +20,6 @@ use Rattle.curves.proofs.Finite.{chain-under}
 use Rattle.paper.specs.Bytes.{byte, word, signed, signedWord, wordOf, wordBytes}
 use Rattle.paper.specs.Job.{decodePlace, vertexBytes, encodePlace}
 use Rattle.paper.specs.Short.{short, shortPlace}
-use Rattle.paper.proofs.Tests.{and-left, and-right, and-true}
 use Rattle.paper.proofs.WordBytes.{wordOf-under, signed-wordOf, word-together, wordBytes-signed}
 
 -- ---- lengths

@@ -18,13 +18,6 @@ test-failed {r} e h = sym e ∙ not-true r h
 pub test-passed : {r t : Bool} → r ≡ t → not r ≡ false → t ≡ true
 test-passed {r} e h = sym e ∙ not-false r h
 
--- ---- the numbers of a range
-
-pub length-count : (k m : ℕ) → length (countFrom k m) ≡ m
-unfolding countFrom
-length-count k zero = refl
-length-count k (suc m) = ap suc (length-count (suc k) m)
-
 -- ---- one turn
 
 pub left-one : (k n : ℕ) → k < n → n - k ≡ suc (n - (k + 1))

@@ -9,6 +9,7 @@ use lib.IntN.{ℤ, pos, negsuc, natAbs}
 use lib.ListN.{length}
 use lib.Signed.{leZ}
 use borrow.Author.Tests.{leb-true, le-leb, lt-ltb, eq-eqb, not-false}
+use Rattle.exact.proofs.AndTests.{and-left, and-right, and-true}
 use Rattle.curves.specs.Grid.{Vertex, Place, facetVertices}
 use Rattle.curves.specs.Walk.{trace}
 use Rattle.curves.specs.Step.{every, readableAll, step}
@@ -21,7 +22,6 @@ use Rattle.paper.specs.Job.{dimension, body, boxOk, lowEnd, highEnd, dec
 use Rattle.paper.specs.Values.{insideFrom, fieldOf}
 use Rattle.paper.specs.Operations.{answered, facetRefusal, crossedIn, placeBad, facetOf, judgeRefusal, pointRefusal, stepIn, stepped, startOf, traceRefusal, onSameFacet, traced}
 use Rattle.paper.specs.Short.{short, limited, shortPlace}
-use Rattle.paper.proofs.Tests.{and-left, and-right, and-true}
 use Rattle.paper.proofs.Refusals.{not-refused, refuse-later, neither-refused, first-passes, unless-answered}
 use Rattle.paper.proofs.Opens.{Opens, opens}
 use Rattle.paper.proofs.Terms.{box-axis, between-size}

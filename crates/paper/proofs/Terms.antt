@@ -8,10 +8,11 @@ use lib.Dec.{leb, eqb}
 use lib.IntN.{ℤ, pos, negsuc, natAbs}
 use lib.Signed.{leZ, ltZ}
 use borrow.Author.Tests.{ltb-true, leb-true, eqb-true, eqb-false, not-true, ne-eqb}
+use Rattle.exact.proofs.AndTests.{and-left, and-right}
 use Rattle.exact.specs.Int.{neg}
 use Rattle.paper.specs.Limits.{coordinateLimit, coefficientLimit, degreeLimit}
 use Rattle.paper.specs.Job.{lowEnd, highEnd, axisOk, boxOk, termCount, coefficientOf, exponentOf, exponentsZero, degree, termOk, exponentWeight, rises, polynomialOk}
-use Rattle.paper.proofs.Tests.{and-left, and-right, all-at}
+use Rattle.paper.proofs.Tests.{all-at}
 
 -- ---- the box
 

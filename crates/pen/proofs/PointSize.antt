@@ -10,6 +10,7 @@ use lib.IntN.{ℤ, pos, natAbs}
 use lib.ListN.{length, getD, length-map}
 use lib.Dec.{eqb}
 use borrow.Author.Tests.{leb-true, not-false}
+use Rattle.exact.proofs.AndTests.{and-left, and-right, and-true}
 use Rattle.exact.specs.Int.{_⊗_, 0ℤ, 1ℤ}
 use Rattle.exact.specs.Size.{Size}
 use Rattle.exact.specs.Det.{Column, determinant}
@@ -24,7 +25,6 @@ use Rattle.paper.specs.Short.{limited}
 use Rattle.paper.specs.Values.{fieldOf, roundSteps, weightSum, overSize, coordinateSteps, pointFrom, pointOf}
 use Rattle.paper.specs.Operations.{facetRefusal, crossedIn, placeBad, facetOf, judgeRefusal, pointRefusal}
 use Rattle.paper.specs.Answers.{padded}
-use Rattle.paper.proofs.Tests.{and-left, and-right, and-true}
 use Rattle.paper.proofs.Refusals.{neither-refused, not-refused}
 use Rattle.paper.proofs.Opens.{Opens, opens}
 use Rattle.paper.proofs.StartTraceable.{traceable-limited}

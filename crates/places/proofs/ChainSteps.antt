@@ -8,11 +8,12 @@ use native.Mathlib.Numerals.{add-one}
 use lib.Dec.{ltb, eqb}
 use lib.ListN.{length-map}
 use borrow.Author.Tests.{eq-eqb, ne-eqb, lt-ltb, le-ltb}
+use Rattle.exact.proofs.CountFrom.{length-countFrom}
 use Rattle.exact.specs.Crossed.{countFrom}
 use Rattle.curves.specs.Grid.{holds, chain, facetOk, placeOk}
 use Rattle.paper.specs.Bytes.{byte}
 use Rattle.paper.specs.Job.{decodePlace}
-use Rattle.paper.proofs.RangeSteps.{left-one, length-count}
+use Rattle.paper.proofs.RangeSteps.{left-one}
 use Rattle.bits.specs.Axes.{Axes}
 use Rattle.bits.proofs.EachDimension.{each-axes}
 
@@ -64,4 +65,4 @@ one-below = each-axes (λ n. 0 < 2 ^ n) (omega arith) (omega arith) (omega arith
 pub place-is : (n : ℕ) (p : List ℕ) → 0 < n
     → placeOk n (decodePlace n p) ≡ (chain n 0 (decodePlace n p .facet .masks) && ltb (byte p (3 * n - 1)) 2)
 unfolding placeOk facetOk decodePlace
-place-is n p h = simp (length-map, length-count) (rw (eq-eqb n n refl, eq-eqb (suc (n - 1)) n (omega arith)))
+place-is n p h = simp (length-map, length-countFrom) (rw (eq-eqb n n refl, eq-eqb (suc (n - 1)) n (omega arith)))

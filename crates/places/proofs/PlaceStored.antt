@@ -10,6 +10,7 @@ use lib.IntN.{ℤ}
 use lib.ListN.{length, set, getD, take}
 use lib.Seq.{sets}
 use borrow.Author.Tests.{ltb-true, lt-ltb}
+use Rattle.exact.proofs.AndTests.{and-left, and-right, and-true}
 use Rattle.exact.specs.Int.{0ℤ}
 use Rattle.exact.proofs.Bits.{back}
 use Rattle.curves.specs.Grid.{Place, chain, holds, placeOk, facetOk}
@@ -19,7 +20,6 @@ use Rattle.paper.specs.Bytes.{wordBytes}
 use Rattle.paper.specs.Job.{vertexBytes, encodePlace}
 use Rattle.paper.specs.Operations.{encodePlaces}
 use Rattle.paper.specs.Short.{short, shortPlace}
-use Rattle.paper.proofs.Tests.{and-left, and-right, and-true}
 use Rattle.bits.specs.Axes.{Axes}
 use Rattle.bits.proofs.EachDimension.{each-axes}
 use Rattle.places.specs.Held.{vertexAs, masksAs, facetAs, placeAs}

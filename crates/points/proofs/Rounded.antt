@@ -9,9 +9,9 @@ use lib.Signed.{_≤ℤ_, pos-natAbs, yes-nonNeg}
 use mir.Syntax.{w64}
 use mir.Val.{SFits, toZ}
 use Rattle.exact.specs.Int.{_⊕_, _⊗_}
-use Rattle.exact.specs.Size.{Size}
+use Rattle.exact.specs.Size.{Size, Is}
 use Rattle.exact.proofs.SizeLaws.{natAbs-neg, size-weaken, size-pos, size-add, size-mul, size-fits-64}
-use Rattle.exact.proofs.Bits.{Holds, holds, back, back-is, back-size, fits-add, fits-mul, holds-add, holds-mul}
+use Rattle.exact.proofs.Bits.{holds, back, back-is, back-size, fits-add, fits-mul, holds-add, holds-mul}
 use Rattle.paper.specs.Limits.{stepsPerUnit}
 use Rattle.paper.specs.Values.{roundSteps, overSize, coordinateSteps}
 use Rattle.points.specs.Shares.{Share, denominatorLimit, lowLimit, stepsLimit}
@@ -80,7 +80,7 @@ module _ (low num d : ℤ) (sl : Size lowLimit low) (sd : Size denominatorLimit 
       pub fits-steps : SFits w64 (pos r)
       fits-steps = size-fits-64 (size-weaken steps-size (lit≤ tt))
 
-      unit-held : Holds 1024 (pos 1024) (pos 1024)
+      unit-held : Is 1024 (pos 1024) (pos 1024)
       unit-held = record { is = refl; size = size-pos 1024 }
 
       pub fits-low : SFits w64 (pos 1024 *ℤ back low)

@@ -9,9 +9,9 @@ use native.Mathlib.Omega.{arith}
 use lib.ListN.{length, getD, take}
 use lib.Dec.{eqb}
 use borrow.Author.Tests.{eqb-true, eq-eqb}
+use Rattle.exact.proofs.AndTests.{and-left, and-right, and-true}
 use Rattle.curves.specs.Grid.{Place, Incidence, placeAt, placeOf, placeOk, incidence, sameMasks, orders}
 use Rattle.curves.specs.Curve.{_∈_}
-use Rattle.curves.proofs.OrderTests.{and-left, and-right, both}
 use Rattle.curves.proofs.SameFacet.{sameMasks-sound, sameMasks-complete}
 use Rattle.curves.proofs.IncidencePlace.{incidence-place}
 use Rattle.curves.proofs.IncidenceOf.{Valid, incidence-ok, place-incidence}
@@ -69,7 +69,7 @@ module _ (n row out : ℕ) (p : Place) where
 
   matches-of : masksAt n row out ≡ p .facet .masks → sideAt n row out ≡ p .side → matches n row out p ≡ true
   unfolding matches
-  matches-of e s = both (sameMasks-complete (masksAt n row out) (p .facet .masks) e) (eq-eqb (sideAt n row out) (p .side) s)
+  matches-of e s = and-true (sameMasks-complete (masksAt n row out) (p .facet .masks) e) (eq-eqb (sideAt n row out) (p .side) s)
 
   -- the place is that of the simplex under its lowest vertex
   place-is : matches n row out p ≡ true → placeAt (cornerUnder (p .facet .low) (orderAt n row) out) (orderAt n row) out ≡ p

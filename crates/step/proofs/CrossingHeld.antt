@@ -6,6 +6,7 @@ use mathlib.Core.Bool.{true}
 use mathlib.Core.List.{List}
 use lib.IntN.{ℤ}
 use borrow.Author.Tests.{not-false}
+use Rattle.exact.proofs.AndTests.{and-true}
 use Rattle.curves.specs.Grid.{facetVertices, placeOk}
 use Rattle.curves.specs.Step.{every, readableAll}
 use Rattle.curves.specs.Joined.{Traceable}
@@ -13,7 +14,6 @@ use Rattle.curves.proofs.GridStep.{accepted-traceable}
 use Rattle.paper.specs.Job.{dimension, decodePlace}
 use Rattle.paper.specs.Values.{fieldOf}
 use Rattle.paper.specs.Operations.{facetRefusal, crossedIn, facetOf, judgeRefusal, pointRefusal}
-use Rattle.paper.proofs.Tests.{and-true}
 use Rattle.paper.proofs.Refusals.{not-refused, neither-refused}
 use Rattle.places.specs.Held.{placeAs}
 use Rattle.job.specs.OpenJob.{JobOf}

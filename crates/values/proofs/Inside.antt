@@ -12,12 +12,12 @@ use mir.Syntax.{w64}
 use mir.Val.{SFits}
 use mir.ValLaws.{toZ-ofZ}
 use borrow.Author.Tests.{ne-eqb}
+use Rattle.exact.proofs.AndTests.{and-left, and-right}
 use Rattle.exact.specs.Size.{Size, Is}
 use Rattle.exact.proofs.Bits.{back, holds-call}
 use Rattle.paper.specs.Limits.{coordinateLimit}
 use Rattle.paper.specs.Job.{boxOk, lowEnd, highEnd}
 use Rattle.paper.specs.Values.{insideFrom}
-use Rattle.paper.proofs.Tests.{and-left, and-right}
 use Rattle.paper.proofs.Terms.{box-axis, between-size}
 use Rattle.bits.specs.Axes.{Axes}
 use Rattle.bits.proofs.EachDimension.{each-axes}

@@ -14,7 +14,7 @@ use Rattle.exact.specs.Int.{_⊗_, power}
 use Rattle.exact.specs.Size.{Size, Is}
 use Rattle.exact.proofs.Ring.{mul-one}
 use Rattle.exact.proofs.SizeLaws.{size-weaken}
-use Rattle.exact.proofs.Bits.{Holds, holds-call, back, fits-mul, holds-mul}
+use Rattle.exact.proofs.Bits.{holds-call, back, fits-mul, holds-mul}
 use Rattle.paper.specs.Limits.{coordinateLimit, coefficientLimit, degreeLimit}
 use Rattle.paper.specs.Job.{termCount, exponentOf, coefficientOf, degree}
 use Rattle.paper.specs.Values.{monomial, termValue}
@@ -55,7 +55,7 @@ abbrev pub Factor : List ℕ → ℕ → ℕ → List ℤ → ℤ → Type 0
 Factor b i a p f = Is (coordinateLimit ^ exponentOf b i a) (power (base p) (exponentOf b i a)) f
 
 module _ {b : List ℕ} {i : ℕ} (e : Exponents b i) (n : ℕ) (px py pz pw : List ℤ) where
-  held : (a : ℕ) (p : List ℤ) {f : ℤ} → a < 4 → Factor b i a p f → Holds (coordinateLimit ^ exponentOf b i a) (back f) (power (base p) (exponentOf b i a))
+  held : (a : ℕ) (p : List ℤ) {f : ℤ} → a < 4 → Factor b i a p f → Is (coordinateLimit ^ exponentOf b i a) (power (base p) (exponentOf b i a)) (back f)
   held a p l j = holds-call j (power-word (exponentOf b i a) (e .each a l))
 
   module _ {f g : ℤ} (j : Factor b i 0 px f) (k : Factor b i 1 py g) where
@@ -69,7 +69,7 @@ module _ {b : List ℕ} {i : ℕ} (e : Exponents b i) (n : ℕ) (px py pz pw : L
         rw (h, mul-one) (is-weaken u (power-bound _ (omega (arith, e .sum))))
 
     module _ {r : ℤ} (l : Factor b i 2 pz r) where
-      last-two : Holds (coordinateLimit ^ (exponentOf b i 1 + exponentOf b i 2)) (back (back g *ℤ back r)) (power (base py) (exponentOf b i 1) ⊗ power (base pz) (exponentOf b i 2))
+      last-two : Is (coordinateLimit ^ (exponentOf b i 1 + exponentOf b i 2)) (power (base py) (exponentOf b i 1) ⊗ power (base pz) (exponentOf b i 2)) (back (back g *ℤ back r))
       last-two = powers-product (exponentOf b i 1) (exponentOf b i 2) (omega (arith, e .sum)) (held 1 py (lit≤ tt) k) (held 2 pz (lit≤ tt) l)
 
       pub three-fit-last : SFits w64 (back g *ℤ back r)
@@ -85,11 +85,10 @@ module _ {b : List ℕ} {i : ℕ} (e : Exponents b i) (n : ℕ) (px py pz pw : L
           rw (h, mul-one) (is-weaken u (power-bound _ (omega (arith, e .sum))))
 
       module _ {t : ℤ} (o : Factor b i 3 pw t) where
-        upper : Holds (coordinateLimit ^ (exponentOf b i 2 + exponentOf b i 3)) (back (back r *ℤ back t)) (power (base pz) (exponentOf b i 2) ⊗ power (base pw) (exponentOf b i 3))
+        upper : Is (coordinateLimit ^ (exponentOf b i 2 + exponentOf b i 3)) (power (base pz) (exponentOf b i 2) ⊗ power (base pw) (exponentOf b i 3)) (back (back r *ℤ back t))
         upper = powers-product (exponentOf b i 2) (exponentOf b i 3) (omega (arith, e .sum)) (held 2 pz (lit≤ tt) l) (held 3 pw (lit≤ tt) o)
 
-        last-three : Holds (coordinateLimit ^ (exponentOf b i 1 + (exponentOf b i 2 + exponentOf b i 3))) (back (back g *ℤ back (back r *ℤ back t)))
-            (power (base py) (exponentOf b i 1) ⊗ (power (base pz) (exponentOf b i 2) ⊗ power (base pw) (exponentOf b i 3)))
+        last-three : Is (coordinateLimit ^ (exponentOf b i 1 + (exponentOf b i 2 + exponentOf b i 3))) (power (base py) (exponentOf b i 1) ⊗ (power (base pz) (exponentOf b i 2) ⊗ power (base pw) (exponentOf b i 3))) (back (back g *ℤ back (back r *ℤ back t)))
         last-three = powers-product (exponentOf b i 1) (exponentOf b i 2 + exponentOf b i 3) (omega (arith, e .sum)) (held 1 py (lit≤ tt) k) upper
 
         pub four-fit-last : SFits w64 (back r *ℤ back t)
@@ -110,7 +109,7 @@ module _ {b : List ℕ} {i : ℕ} (e : Exponents b i) (n : ℕ) (px py pz pw : L
 -- ---- a term
 
 module _ {b : List ℕ} {i : ℕ} (v : List ℤ) {c m : ℤ} (e : Exponents b i) (h : c ≡ coefficientOf b i) (j : Is monomialLimit (monomial b i 0 v) m) where
-  coefficient-held : Holds coefficientLimit (back c) (coefficientOf b i)
+  coefficient-held : Is coefficientLimit (coefficientOf b i) (back c)
   coefficient-held = holds-call (record { is = h; size = e .coefficient }) coefficient-word
 
   pub term-fits : SFits w64 (back c *ℤ back m)

@@ -13,7 +13,7 @@ use mir.ValLaws.{toZ-pos}
 use Rattle.exact.specs.Int.{_⊕_, _⊖_, neg, 1ℤ}
 use Rattle.exact.specs.Size.{Size, Is}
 use Rattle.exact.proofs.SizeLaws.{size-pos, size-weaken, size-add}
-use Rattle.exact.proofs.Bits.{Holds, holds, holds-call, back, back-is, fits-add, holds-add}
+use Rattle.exact.proofs.Bits.{holds, holds-call, back, back-is, fits-add, holds-add}
 use Rattle.curves.specs.Grid.{plus, up, down}
 use Rattle.curves.specs.Grid as Grid
 use Rattle.places.specs.declared.Vertex.{Vertex}
@@ -57,7 +57,7 @@ move-whole = omega (arith, move-word)
 
 -- a coordinate and a number of size 1 at most
 module _ {x d a : ℤ} (s : Size moveLimit x) (t : Size 1 d) (e : a ≡ d) where
-  more : Holds 1 a d
+  more : Is 1 d a
   more = record { is = e; size = t }
 
   pub move-fits : SFits w64 (back x +ℤ a)

@@ -12,7 +12,7 @@ use Rattle.exact.specs.Int.{_⊕_}
 use Rattle.exact.specs.Size.{Size, Is}
 use Rattle.exact.proofs.Ring.{add-assoc, add-zero, zero-add}
 use Rattle.exact.proofs.SizeLaws.{size-pos, size-weaken}
-use Rattle.exact.proofs.Bits.{Holds, holds-call, is-size, back, fits-add, holds-add}
+use Rattle.exact.proofs.Bits.{holds-call, is-size, back, fits-add, holds-add}
 use Rattle.paper.specs.Job.{termCount}
 use Rattle.paper.specs.Values.{termValue, sumFrom, rawSum}
 use Rattle.values.specs.Sums.{termSize, sumLimit, Polynomial}
@@ -36,7 +36,7 @@ module _ {n : ℕ} {b : List ℕ} (p : Polynomial n b) (v : List ℤ) (i : ℕ) 
       omega (arith, more)
 
   module _ {r t : ℤ} (l : i < termCount b) (h : Partial b v i r) (j : Is termSize (termValue b v i) t) where
-    here : Holds (i * termSize) r r
+    here : Is (i * termSize) r r
     here = record { is = refl; size = h .size }
 
     pub partial-fits : SFits w64 (r +ℤ back t)

@@ -14,7 +14,7 @@ use Rattle.exact.specs.Int.{_⊗_, power, 0ℤ}
 use Rattle.exact.specs.Size.{Size, Is}
 use Rattle.exact.proofs.Ring.{mul-one}
 use Rattle.exact.proofs.SizeLaws.{size-power}
-use Rattle.exact.proofs.Bits.{Holds, holds, holds-call, back, back-is, fits-mul, holds-mul}
+use Rattle.exact.proofs.Bits.{holds, holds-call, back, back-is, fits-mul, holds-mul}
 use Rattle.paper.specs.Limits.{coordinateLimit, degreeLimit}
 use Rattle.bits.specs.Axes.{Axes}
 use Rattle.bits.proofs.EachDimension.{each-axes}
@@ -35,14 +35,14 @@ power-word k h = le-trans (power-bound k h) (rw monomial-limit (lit≤ tt))
 -- ---- products of powers
 
 -- two powers whose exponents together are within the degree's limit
-module _ (p q : ℕ) (h : p + q ≤ degreeLimit) {v w f g : ℤ} (i : Holds (coordinateLimit ^ p) f v) (j : Holds (coordinateLimit ^ q) g w) where
+module _ (p q : ℕ) (h : p + q ≤ degreeLimit) {v w f g : ℤ} (i : Is (coordinateLimit ^ p) v f) (j : Is (coordinateLimit ^ q) w g) where
   bound : coordinateLimit ^ p * coordinateLimit ^ q ≤ 2 ^ 63 - 1
   bound = subst (λ (m : ℕ). m ≤ 2 ^ 63 - 1) (pow-add coordinateLimit p q) (power-word (p + q) h)
 
   pub powers-fit : SFits w64 (f *ℤ g)
   powers-fit = fits-mul i j bound
 
-  pub powers-product : Holds (coordinateLimit ^ (p + q)) (back (f *ℤ g)) (v ⊗ w)
+  pub powers-product : Is (coordinateLimit ^ (p + q)) (v ⊗ w) (back (f *ℤ g))
   powers-product = rw (pow-add coordinateLimit p q) (holds-mul i j bound)
 
 -- ---- the table
@@ -57,18 +57,18 @@ module _ {x : ℤ} (s : Size coordinateLimit x) where
   itself-is = rw (mul-one x) (record { is = holds s coordinate-word .is; size = rw mul-one at (size-power s 1) })
 
   -- one power more
-  module _ (k : ℕ) (l : k < degreeLimit) {r : ℤ} (i : Holds (coordinateLimit ^ k) r (power x k)) where
+  module _ (k : ℕ) (l : k < degreeLimit) {r : ℤ} (i : Is (coordinateLimit ^ k) (power x k) r) where
     next-bound : coordinateLimit * coordinateLimit ^ k ≤ 2 ^ 63 - 1
     next-bound = subst (λ (m : ℕ). m ≤ 2 ^ 63 - 1) (pow-succ' coordinateLimit k) (power-word (suc k) l)
 
     pub power-fits : SFits w64 (back x *ℤ r)
     power-fits = fits-mul (holds s coordinate-word) i next-bound
 
-    pub power-next : Holds (coordinateLimit ^ suc k) (back (back x *ℤ r)) (power x (suc k))
+    pub power-next : Is (coordinateLimit ^ suc k) (power x (suc k)) (back (back x *ℤ r))
     unfolding power
     power-next = rw (pow-succ' coordinateLimit k) (holds-mul (holds s coordinate-word) i next-bound)
 
-  pub square-is : Holds (coordinateLimit ^ 2) (back (back x *ℤ back x)) (power x 2)
+  pub square-is : Is (coordinateLimit ^ 2) (power x 2) (back (back x *ℤ back x))
   unfolding degreeLimit
   square-is = power-next 1 (lit< tt) itself-is
 
@@ -76,7 +76,7 @@ module _ {x : ℤ} (s : Size coordinateLimit x) where
   unfolding degreeLimit
   square-fits = power-fits 1 (lit< tt) itself-is
 
-  pub cube-is : Holds (coordinateLimit ^ 3) (back (back x *ℤ back (back x *ℤ back x))) (power x 3)
+  pub cube-is : Is (coordinateLimit ^ 3) (power x 3) (back (back x *ℤ back (back x *ℤ back x)))
   unfolding degreeLimit
   cube-is = power-next 2 (lit< tt) square-is
 
@@ -84,7 +84,7 @@ module _ {x : ℤ} (s : Size coordinateLimit x) where
   unfolding degreeLimit
   cube-fits = power-fits 2 (lit< tt) square-is
 
-  pub fourth-is : Holds (coordinateLimit ^ 4) (back (back x *ℤ back (back x *ℤ back (back x *ℤ back x)))) (power x 4)
+  pub fourth-is : Is (coordinateLimit ^ 4) (power x 4) (back (back x *ℤ back (back x *ℤ back (back x *ℤ back x))))
   unfolding degreeLimit
   fourth-is = power-next 3 (lit< tt) cube-is
 

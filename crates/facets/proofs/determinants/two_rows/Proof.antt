@@ -4,7 +4,8 @@ use mathlib.Core.Path.{sym, _∙_}
 use lib.IntN.{_*ℤ_}
 use lib.Dec.{lit≤}
 use Rattle.exact.specs.Int.{_⊗_}
-use Rattle.exact.proofs.Bits.{Holds, back, fits-mul, fits-sub, holds-mul, holds-sub}
+use Rattle.exact.specs.Size.{Is}
+use Rattle.exact.proofs.Bits.{back, fits-mul, fits-sub, holds-mul, holds-sub}
 use Rattle.exact.proofs.SmallDeterminants.{det-two}
 use Rattle.facets.specs.Entries.{entryAt}
 use Rattle.facets.proofs.Entries.{entry-of-two}
@@ -34,17 +35,15 @@ mul-result-2 c = fits-mul (entry-of-two (c .before .before .before .before .pre 
 
 left :
     (c : tie.After-entry4)
-    → Holds (2 ^ 56) (back (back (c .before .before .before .entry .result) *ℤ back (c .before .before .entry2 .result)))
-    (entryAt (c .before .before .before .before .args .cells .now) (c .before .before .before .before .args .r) (c .before .before .before .before .args .a)
-    ⊗ entryAt (c .before .before .before .before .args .cells .now) (c .before .before .before .before .args .s) (c .before .before .before .before .args .b))
+    → Is (2 ^ 56) (entryAt (c .before .before .before .before .args .cells .now) (c .before .before .before .before .args .r) (c .before .before .before .before .args .a)
+    ⊗ entryAt (c .before .before .before .before .args .cells .now) (c .before .before .before .before .args .s) (c .before .before .before .before .args .b)) (back (back (c .before .before .before .entry .result) *ℤ back (c .before .before .entry2 .result)))
 left c = holds-mul (entry-of-two (c .before .before .before .before .pre .0) (c .before .before .before .before .args .r) (c .before .before .before .before .args .a) (c .before .before .before .entry .ensures))
     (entry-of-two (c .before .before .before .before .pre .0) (c .before .before .before .before .args .s) (c .before .before .before .before .args .b) (c .before .before .entry2 .ensures)) (lit≤ tt)
 
 right :
     (c : tie.After-entry4)
-    → Holds (2 ^ 56) (back (back (c .before .entry3 .result) *ℤ back (c .entry4 .result)))
-    (entryAt (c .before .before .before .before .args .cells .now) (c .before .before .before .before .args .r) (c .before .before .before .before .args .b)
-    ⊗ entryAt (c .before .before .before .before .args .cells .now) (c .before .before .before .before .args .s) (c .before .before .before .before .args .a))
+    → Is (2 ^ 56) (entryAt (c .before .before .before .before .args .cells .now) (c .before .before .before .before .args .r) (c .before .before .before .before .args .b)
+    ⊗ entryAt (c .before .before .before .before .args .cells .now) (c .before .before .before .before .args .s) (c .before .before .before .before .args .a)) (back (back (c .before .entry3 .result) *ℤ back (c .entry4 .result)))
 right c = holds-mul (entry-of-two (c .before .before .before .before .pre .0) (c .before .before .before .before .args .r) (c .before .before .before .before .args .b) (c .before .entry3 .ensures))
     (entry-of-two (c .before .before .before .before .pre .0) (c .before .before .before .before .args .s) (c .before .before .before .before .args .a) (c .entry4 .ensures)) (lit≤ tt)
 
