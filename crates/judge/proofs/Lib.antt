@@ -1,6 +1,5 @@
 -- Laws that the functions of this crate cite, a file for each idea.
 pub mod OpenJob
-pub mod ZeroCells
 pub mod PlaceForm
 pub mod PlaceFound
 pub mod PlaceCrossed

@@ -5,5 +5,5 @@ pub mod RowVertices
 pub mod VertexMasks
 pub mod FacetMasks
 pub mod FacetSides
-pub mod Moves
+pub mod MovedCorners
 pub mod Anywhere

@@ -1,5 +1,4 @@
 -- What the contracts of this crate cite, beside the definitions of the crates below.
 pub mod Table
 pub mod Facets
-pub mod Moves
 pub mod Corners

@@ -1,41 +1,16 @@
 // The place of a simplex without one vertex, with any corner.
 
 ghost use Prim.Native.Nat.{_≤_};
-ghost use Rattle.exact.specs.Size.{Size};
 ghost use Rattle.curves.specs.Grid.{placeAt};
 ghost use Rattle.places.specs.Held.{vertexAs, VertexSize};
 ghost use Rattle.orders.specs.Table.{InTable, orderAt};
-ghost use Rattle.orders.specs.Moves.{moveLimit, Moved};
+ghost use Rattle.values.specs.Moves.{moveLimit};
 ghost use Rattle.orders.specs.Corners.{LowIs, PlaceIs};
 use crate::facet;
 use crate::table;
 use places::HeldPlace;
 use places::Vertex;
-
-// The vertex with d, which is 1 or − 1, added on one axis.
-pub fn moved(v: Vertex, axis: u64, d: i64) -> Vertex
-    requires { ⌜ (VertexSize moveLimit v) × (Size 1 d) ⌝ }
-    ensures { λ r. ⌜ Moved v axis d r ⌝ }
-{
-    let mut r = v;
-    if axis == 0 {
-        r.x = v.x + d;
-        return r;
-    }
-    if axis == 1 {
-        r.y = v.y + d;
-        return r;
-    }
-    if axis == 2 {
-        r.z = v.z + d;
-        return r;
-    }
-    if axis == 3 {
-        r.w = v.w + d;
-        return r;
-    }
-    v
-}
+use values::lattice;
 
 // The lowest vertex of the facet without vertex `out`.
 pub fn lowest(n: usize, corner: Vertex, row: usize, out: usize) -> Vertex
@@ -43,7 +18,7 @@ pub fn lowest(n: usize, corner: Vertex, row: usize, out: usize) -> Vertex
     ensures { λ r. ⌜ LowIs corner (orderAt n row) out r ⌝ }
 {
     if out == 0 {
-        return moved(corner, table::axis(n, row, 0), 1);
+        return lattice::moved(corner, table::axis(n, row, 0), 1);
     }
     corner
 }

@@ -26,7 +26,7 @@ short-back x h = toZ-ofZ w64 x (record { sfits = omega (arith, ltb-true (mag x) 
 pub back-short : (x : ℤ) → short x ≡ true → short (back x) ≡ true
 back-short x h = rw (short-back x h) h
 
-short-size : (x : ℤ) → short x ≡ true → natAbs x ≤ 32768
+pub short-size : (x : ℤ) → short x ≡ true → natAbs x ≤ 32768
 unfolding short
 short-size (pos a) h = omega (arith, ltb-true a 32768 h)
 short-size (negsuc a) h = omega (arith, ltb-true a 32768 h)

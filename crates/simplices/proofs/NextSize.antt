@@ -9,7 +9,7 @@ use Rattle.places.specs.declared.Vertex.{Vertex}
 use Rattle.places.specs.Held.{vertexAs, VertexSize}
 use Rattle.orders.specs.Table.{orderAt, InTable}
 use Rattle.orders.specs.Corners.{CornerIs, LowIs}
-use Rattle.orders.proofs.Moves.{corner-rest, low-rest, size-parts}
+use Rattle.orders.proofs.MovedCorners.{corner-rest, low-rest, size-parts}
 
 pub next-size :
     (n row out exit m : ℕ) (low corner next : Vertex) → InTable n row

@@ -4,12 +4,13 @@ ghost use Prim.Native.Nat.{_≤_};
 ghost use Rattle.curves.specs.Grid.{placeAt, turn};
 ghost use Rattle.places.specs.Held.{vertexAs, VertexSize};
 ghost use Rattle.orders.specs.Table.{InTable, orderAt};
-ghost use Rattle.orders.specs.Moves.{moveLimit};
+ghost use Rattle.values.specs.Moves.{moveLimit};
 ghost use Rattle.orders.specs.Corners.{CornerIs, PlaceIs};
 use orders::place;
 use orders::table;
 use places::HeldPlace;
 use places::Vertex;
+use values::lattice;
 
 // The corner of the simplex with a row's order whose facet without vertex `out` is that of the place.
 pub fn corner_of(n: usize, p: HeldPlace, row: usize, out: usize) -> Vertex
@@ -18,7 +19,7 @@ pub fn corner_of(n: usize, p: HeldPlace, row: usize, out: usize) -> Vertex
 {
     let low = p.low;
     if out == 0 {
-        return place::moved(low, table::axis(n, row, 0), -1);
+        return lattice::moved(low, table::axis(n, row, 0), -1);
     }
     low
 }

@@ -1,7 +1,7 @@
 -- A held place is well-formed and its bytes can name it; a place that a step leads to has coordinates of the same size.
 use Prim.Native.Nat.{ℕ, _≤_}
 use native.Mathlib.Omega.{arith}
-use mathlib.Core.Path.{_≡_, subst, _∙_}
+use mathlib.Core.Path.{_≡_, sym, subst, _∙_}
 use mathlib.Core.Bool.{true}
 use mathlib.Core.List.{List}
 use lib.IntN.{ℤ, natAbs}
@@ -21,15 +21,15 @@ use Rattle.places.specs.Held.{vertexAs, facetAs, placeAs, VertexSize}
 use Rattle.places.specs.PlaceBytes.{FitsBytes}
 use Rattle.places.specs.declared.Vertex.{Vertex}
 use Rattle.places.specs.declared.HeldPlace.{HeldPlace}
-use Rattle.places.proofs.WordBytes.{short-back, word-size}
+use Rattle.places.proofs.WordBytes.{short-size}
 use Rattle.places.proofs.PlaceStored.{coordinate-short}
 use Rattle.job.specs.OpenJob.{JobOf}
-use Rattle.values.specs.Moves as Values
+use Rattle.values.specs.Moves.{moveLimit}
+use Rattle.values.proofs.Moves.{vertex-wider}
 use Rattle.columns.proofs.OpenedJob.{job-axes}
 use Rattle.orders.specs.Table.{InTable, orderAt}
-use Rattle.orders.specs.Moves as Orders
 use Rattle.orders.specs.Corners.{CornerIs, LowIs}
-use Rattle.orders.proofs.Moves.{vertex-weaken, corner-rest, low-rest, size-parts}
+use Rattle.orders.proofs.MovedCorners.{first-coordinates, corner-rest, low-rest, size-parts}
 use Rattle.step.specs.Held.{heldLimit, Held}
 
 -- ---- the form and the bytes
@@ -48,29 +48,27 @@ module _ {s : List ℕ} {n : ℕ} {p : HeldPlace} (h : Held s n p) where
 
 -- ---- sizes
 
-short-size : (x : ℤ) → short x ≡ true → Size heldLimit x
+held-size : (x : ℤ) → short x ≡ true → Size heldLimit x
 unfolding heldLimit
-short-size x h = record { size = subst (λ z. natAbs z ≤ 32768) (short-back x h) (word-size x h) }
+held-size x h = record { size = short-size x h }
 
 -- the coordinates are within the limit if those that count fit 16 bits and the others are those of a vertex within it
 low-sized : (n : ℕ) (v u : Vertex) → Axes n → every short (vertexAs n u) ≡ true → drop n (vertexAs 4 u) ≡ drop n (vertexAs 4 v)
     → VertexSize heldLimit v → VertexSize heldLimit u
 unfolding vertexAs
-low-sized n v u a h e s = size-parts n heldLimit v u e s (λ k l. short-size _ (coordinate-short n u h k l (omega (arith, a .high))))
+low-sized n v u a h e s =
+    size-parts n heldLimit v u e s
+    (λ k l. subst (Size heldLimit) (sym (first-coordinates n u k l)) (held-size _ (coordinate-short n u h k l (omega (arith, a .high)))))
 
 module _ {s : List ℕ} {n : ℕ} {p : HeldPlace} (h : Held s n p) where
-  pub low-moves : VertexSize Orders.moveLimit (p .low)
-  unfolding heldLimit Orders.moveLimit
-  low-moves = vertex-weaken (h .size) (lit≤ tt)
+  pub low-moves : VertexSize moveLimit (p .low)
+  unfolding heldLimit moveLimit
+  low-moves = vertex-wider (h .size) (lit≤ tt)
 
   module _ {o : List ℕ} {out : ℕ} {corner : Vertex} (c : CornerIs (p .low) o out corner) where
-    pub corner-moves : VertexSize Orders.moveLimit corner
-    unfolding heldLimit Orders.moveLimit
-    corner-moves = vertex-weaken (c .size heldLimit (h .size)) (lit≤ tt)
-
-    pub corner-shifts : VertexSize Values.moveLimit corner
-    unfolding heldLimit Values.moveLimit
-    corner-shifts = vertex-weaken (c .size heldLimit (h .size)) (lit≤ tt)
+    pub corner-moves : VertexSize moveLimit corner
+    unfolding heldLimit moveLimit
+    corner-moves = vertex-wider (c .size heldLimit (h .size)) (lit≤ tt)
 
   -- the place that a step leads to
   pub next-held : {row out way : ℕ} {corner : Vertex} {q : HeldPlace} → InTable n row → CornerIs (p .low) (orderAt n row) out corner

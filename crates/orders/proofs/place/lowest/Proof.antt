@@ -3,7 +3,7 @@ use native.Mathlib.Omega.{arith}
 use borrow.Author.Needs.{needs}
 use Rattle.orders.specs.Table.{orderAt, axisAt}
 use Rattle.orders.proofs.Rows.{row-length}
-use Rattle.orders.proofs.Moves.{low-moved, low-same}
+use Rattle.orders.proofs.MovedCorners.{low-moved, low-same}
 use Rattle.orders.proofs.place.lowest.Statement.{statement}
 use Rattle.orders.proofs.place.lowest.Tie as tie
 

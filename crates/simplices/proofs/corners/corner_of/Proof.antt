@@ -3,7 +3,7 @@ use native.Mathlib.Omega.{arith}
 use borrow.Author.Needs.{needs}
 use Rattle.orders.specs.Table.{orderAt, axisAt}
 use Rattle.orders.proofs.Rows.{row-length}
-use Rattle.orders.proofs.Moves.{corner-moved, corner-same}
+use Rattle.orders.proofs.MovedCorners.{corner-moved, corner-same}
 use Rattle.simplices.proofs.corners.corner_of.Statement.{statement}
 use Rattle.simplices.proofs.corners.corner_of.Tie as tie
 

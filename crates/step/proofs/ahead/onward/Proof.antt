@@ -1,7 +1,7 @@
 -- `ahead::onward` meets its contract: the simplex found is the one on the place's side, and its exit leads on.
 use Rattle.columns.proofs.OpenedJob.{job-dimension, job-axes}
 use Rattle.columns.proofs.FacetColumns.{zero-cells}
-use Rattle.step.proofs.HeldPlaces.{held-form, low-moves, corner-shifts, corner-moves}
+use Rattle.step.proofs.HeldPlaces.{held-form, low-moves, corner-moves}
 use Rattle.step.proofs.SimplexStep.{no-stop, at-edge, at-limit, way-inside, leads}
 use Rattle.step.proofs.ahead.onward.Statement.{statement}
 use Rattle.step.proofs.ahead.onward.Tie as tie
@@ -20,7 +20,7 @@ simplex-of-requires : tie.Need-simplex-of-requires
 simplex-of-requires c κs =
     let h = c .before .before .before .before .pre in
     let f = c .before .before .find .ensures in
-    (h .job, (f .table, (corner-shifts h (c .before .corner-of .ensures), zero-cells (job-axes (h .job)))))
+    (h .job, (f .table, (corner-moves h (c .before .corner-of .ensures), zero-cells (job-axes (h .job)))))
 
 returns : tie.Need-returns
 returns c =

@@ -1,5 +1,4 @@
--- A vertex that the code moves is moved in every dimension (`moved-of`); a corner and a facet's lowest vertex as moved vertices, and the
--- coordinates that do not count, which neither changes.
+-- A corner and a facet's lowest vertex as moved vertices, and the coordinates that do not count, which neither changes.
 use Prim.Native.Nat.{ℕ, suc, zero, _+_, _-_, _≤_, _<_}
 use mathlib.Core.Path.{_≡_, refl, sym, ap, _∙_, subst}
 use mathlib.Core.Bool.{Bool, true, false}
@@ -22,7 +21,8 @@ use Rattle.curves.specs.Grid as Grid
 use Rattle.places.specs.declared.Vertex.{Vertex}
 use Rattle.places.specs.Held.{vertexAs, VertexSize}
 use Rattle.orders.specs.Table.{orderAt, axisAt, InTable}
-use Rattle.orders.specs.Moves.{moveLimit, addOn, Moved}
+use Rattle.values.specs.Moves.{addOn, Moved}
+use Rattle.values.proofs.Moves.{up-is, down-is, vertex-wider}
 use Rattle.orders.specs.Corners.{cornerUnder, lowOver, CornerIs, LowIs}
 use Rattle.orders.proofs.Rows.{axis-under}
 
@@ -43,17 +43,7 @@ sized-vertex : {m : ℕ} {v : Vertex} → Sized m (vertexAs 4 v) → VertexSize 
 unfolding vertexAs
 sized-vertex h = record { x = h 0; y = h 1; z = h 2; w = h 3 }
 
-pub vertex-weaken : {m k : ℕ} {v : Vertex} → VertexSize m v → m ≤ k → VertexSize k v
-vertex-weaken s l = record { x = size-weaken (s .x) l; y = size-weaken (s .y) l; z = size-weaken (s .z) l; w = size-weaken (s .w) l }
-
 -- ---- one axis
-
-take-addOn : (n a : ℕ) (d : ℤ) (v : Grid.Vertex) → take n (addOn a d v) ≡ addOn a d (take n v)
-unfolding addOn
-take-addOn zero a d v = refl
-take-addOn (suc n) a d [] = refl
-take-addOn (suc n) zero d (x ∷ v) = refl
-take-addOn (suc n) (suc a) d (x ∷ v) = ap (λ w. x ∷ w) (take-addOn n a d v)
 
 drop-addOn : (n a : ℕ) (d : ℤ) (v : Grid.Vertex) → a < n → drop n (addOn a d v) ≡ drop n v
 unfolding addOn
@@ -62,61 +52,7 @@ drop-addOn (suc n) a d [] l = refl
 drop-addOn (suc n) zero d (x ∷ v) l = refl
 drop-addOn (suc n) (suc a) d (x ∷ v) l = drop-addOn n a d v (omega arith)
 
-addOn-sized : (m a : ℕ) (d : ℤ) (v : List ℤ) → Size 1 d → Sized m v → Sized (m + 1) (addOn a d v)
-unfolding addOn
-addOn-sized m a d [] t h k = size-weaken (h k) (omega arith)
-addOn-sized m zero d (x ∷ v) t h zero = size-add (h 0) t
-addOn-sized m zero d (x ∷ v) t h (suc k) = size-weaken (h (suc k)) (omega arith)
-addOn-sized m (suc a) d (x ∷ v) t h zero = size-weaken (h 0) (omega arith)
-addOn-sized m (suc a) d (x ∷ v) t h (suc k) = addOn-sized m a d v t (λ j. h (suc j)) k
-
--- ---- what the machine computes
-
-module _ {w d : ℤ} (s : Size moveLimit w) (t : Size 1 d) where
-  pub move-fits : SFits w64 (back w +ℤ back d)
-  unfolding moveLimit
-  move-fits = fits-add (holds s (lit≤ tt)) (holds t (lit≤ tt)) (lit≤ tt)
-
-  pub move-is : back (back w +ℤ back d) ≡ w ⊕ d
-  unfolding moveLimit
-  move-is = holds-add (holds s (lit≤ tt)) (holds t (lit≤ tt)) (lit≤ tt) .is
-
-pub moved-of : (v r : Vertex) (a : ℕ) (d : ℤ) → Size 1 d → vertexAs 4 r ≡ addOn a d (vertexAs 4 v) → Moved v a d r
-unfolding vertexAs
-moved-of v r a d t e =
-    record {
-      is = λ n. ap (take n) e ∙ take-addOn n a d (vertexAs 4 v);
-      size = λ m s. sized-vertex (subst (Sized (m + 1)) (sym e) (addOn-sized m a d (vertexAs 4 v) t (vertex-sized s)));
-    }
-
--- behind the fourth axis nothing moves
-addOn-none : (a : ℕ) (d : ℤ) (v : Grid.Vertex) → length v ≤ a → addOn a d v ≡ v
-unfolding addOn
-addOn-none a d [] l = refl
-addOn-none zero d (x ∷ v) l = absurd (not-suc-le-zero l)
-addOn-none (suc a) d (x ∷ v) l = ap (λ w. x ∷ w) (addOn-none a d v (omega arith))
-
-pub moved-none : (v : Vertex) (a : ℕ) (d : ℤ) → 4 ≤ a → Moved v a d v
-unfolding vertexAs
-moved-none v a d l =
-    record {
-      is = λ n. ap (take n) (sym (addOn-none a d (vertexAs 4 v) l)) ∙ take-addOn n a d (vertexAs 4 v);
-      size = λ m s. vertex-weaken s (omega arith);
-    }
-
 -- ---- corner and lowest vertex
-
-up-is : (a : ℕ) (v : Grid.Vertex) → up a v ≡ addOn a 1ℤ v
-unfolding up addOn
-up-is a [] = refl
-up-is zero (x ∷ v) = refl
-up-is (suc a) (x ∷ v) = ap (λ w. x ∷ w) (up-is a v)
-
-down-is : (a : ℕ) (v : Grid.Vertex) → down a v ≡ addOn a (negsuc 0) v
-unfolding down addOn _⊖_ neg
-down-is a [] = refl
-down-is zero (x ∷ v) = refl
-down-is (suc a) (x ∷ v) = ap (λ w. x ∷ w) (down-is a v)
 
 corner-first : (v : Grid.Vertex) (o : List ℕ) → 0 < length o → cornerUnder v o 0 ≡ addOn (getD o 0 0) (negsuc 0) v
 unfolding cornerUnder
@@ -152,7 +88,7 @@ module _ (v : Vertex) (o : List ℕ) (i : ℕ) where
       }
 
   pub corner-same : (i ≡ 0 → ⊥) → CornerIs v o i v
-  corner-same k = record { is = λ n. sym (corner-other (vertexAs n v) o i k); size = λ m s. vertex-weaken s (omega arith) }
+  corner-same k = record { is = λ n. sym (corner-other (vertexAs n v) o i k); size = λ m s. vertex-wider s (omega arith) }
 
   pub low-moved : (r : Vertex) (a : ℕ) → 0 < length o → i ≡ 0 → a ≡ getD o 0 0 → Moved v a 1ℤ r → LowIs v o i r
   low-moved r a l z e h =
@@ -165,7 +101,7 @@ module _ (v : Vertex) (o : List ℕ) (i : ℕ) where
       }
 
   pub low-same : (i ≡ 0 → ⊥) → LowIs v o i v
-  low-same k = record { is = λ n. sym (low-other (vertexAs n v) o i k); size = λ m s. vertex-weaken s (omega arith) }
+  low-same k = record { is = λ n. sym (low-other (vertexAs n v) o i k); size = λ m s. vertex-wider s (omega arith) }
 
 -- ---- the coordinates that do not count
 
@@ -192,7 +128,7 @@ module _ (n row : ℕ) (h : InTable n row) (v : Vertex) (i : ℕ) (r : Vertex) w
   pub low-rest : LowIs v (orderAt n row) i r → drop n (vertexAs 4 r) ≡ drop n (vertexAs 4 v)
   low-rest c = ap (drop n) (c .is 4) ∙ drop-low n (vertexAs 4 v) (orderAt n row) i first-under
 
-first-coordinates : (n : ℕ) (r : Vertex) (k : ℕ) → k < n → getD (vertexAs n r) k 0ℤ ≡ getD (vertexAs 4 r) k 0ℤ
+pub first-coordinates : (n : ℕ) (r : Vertex) (k : ℕ) → k < n → getD (vertexAs n r) k 0ℤ ≡ getD (vertexAs 4 r) k 0ℤ
 unfolding vertexAs
 first-coordinates n r k l = getD-take n (vertexAs 4 r) k 0ℤ l
 
