@@ -1,6 +1,9 @@
 -- Laws that the functions of this crate cite, a file for each idea.
-pub mod Padded
-pub mod Reading
-pub mod Looking
-pub mod Answering
-pub mod Start
+pub mod OpenJob
+pub mod ZeroCells
+pub mod PlaceForm
+pub mod PlaceFound
+pub mod PlaceCrossed
+pub mod JudgeAnswers
+pub mod PointAnswers
+pub mod StartRefusal

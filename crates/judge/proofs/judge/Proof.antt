@@ -1,36 +1,60 @@
--- `judge` meets its contract.
+-- `judge` meets its contract: Open's refusal, the place's, or crossed or not.
+use borrow.Author.Needs.{needs}
 use mathlib.Core.Path.{sym, _∙_}
 use mathlib.Core.Bool.{true, false}
-use borrow.Author.Needs.{needs}
 use Rattle.paper.specs.Answers.{judgedAs}
-use Rattle.judge.proofs.Looking.{located-cells}
-use Rattle.judge.proofs.Answering.{judge-refused, judge-answered}
+use Rattle.columns.proofs.OpenedJob.{job-axes}
+use Rattle.judge.proofs.ZeroCells.{zero-cells}
+use Rattle.judge.proofs.OpenJob.{opened}
+use Rattle.judge.proofs.JudgeAnswers.{judge-refused, judge-unopened, judge-answered}
 use Rattle.judge.proofs.judge.Statement.{statement}
 use Rattle.judge.proofs.judge.Tie as tie
 
-located-requires : tie.Need-located-requires
-located-requires c κs = search needs
+open-refusal-requires : tie.Need-open-refusal-requires
+open-refusal-requires c κs = search needs
 
 returns : tie.Need-returns
 unfolding judgedAs
-returns c = judge-refused (c .before .before .located .ensures) (c .if1 .taken)
+returns c =
+    judge-unopened _ _ _ (c .before .open-refusal .ensures) (c .if1 .taken)
 
-crossed-requires : tie.Need-crossed-requires
-crossed-requires c κs = located-cells (c .before .before .before .located .ensures .finds (c .before .if1 .left))
+opened-dimension-requires : tie.Need-opened-dimension-requires
+opened-dimension-requires c κs = search needs
+
+place-in-requires : tie.Need-place-in-requires
+place-in-requires c κs =
+    let job = opened (c .before .before .before .open-refusal .ensures) (c .before .before .if1 .left) (c .before .opened-dimension .ensures) in
+    (job, zero-cells (job-axes job))
 
 returns-2 : tie.Need-returns-2
 unfolding judgedAs
 returns-2 c =
-    let at = c .before .before .before .before .before .located .ensures in
-    let none = c .before .before .before .if1 .left in
-    judge-answered at true none (sym (c .before .crossed .ensures) ∙ c .if2 .taken)
+    judge-refused _ _ _ (c .before .before .place-in .ensures .number) (c .if2 .taken)
+
+crossed-requires : tie.Need-crossed-requires
+crossed-requires c κs = search needs
 
 returns-3 : tie.Need-returns-3
 unfolding judgedAs
 returns-3 c =
-    let at = c .before .before .before .before .before .located .ensures in
-    let none = c .before .before .before .if1 .left in
-    judge-answered at false none (sym (c .before .crossed .ensures) ∙ c .if2 .left)
+    let job = opened (c .before .before .before .before .before .before .before .before .before .open-refusal .ensures) (c .before .before .before .before .before .before .before .before .if1 .left) (c .before .before .before .before .before .before .before .opened-dimension .ensures) in
+    judge-answered true job (c .before .before .before .before .before .place-in .ensures) (c .before .before .before .if2 .left) (sym (c .before .crossed .ensures) ∙ (c .if3 .taken))
+
+returns-4 : tie.Need-returns-4
+unfolding judgedAs
+returns-4 c =
+    let job = opened (c .before .before .before .before .before .before .before .before .before .open-refusal .ensures) (c .before .before .before .before .before .before .before .before .if1 .left) (c .before .before .before .before .before .before .before .opened-dimension .ensures) in
+    judge-answered false job (c .before .before .before .before .before .place-in .ensures) (c .before .before .before .if2 .left) (sym (c .before .crossed .ensures) ∙ (c .if3 .left))
 
 pub judge-spec : {M : Type 1} → statement M
-judge-spec = tie.close (tie.spec located-requires returns crossed-requires returns-2 returns-3)
+judge-spec =
+    tie.close
+    (tie.spec
+    open-refusal-requires
+    returns
+    opened-dimension-requires
+    place-in-requires
+    returns-2
+    crossed-requires
+    returns-3
+    returns-4)

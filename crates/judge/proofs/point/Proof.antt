@@ -1,30 +1,28 @@
--- `point` meets its contract.
+-- `point` meets its contract: Open's refusal, or what the place says.
 use borrow.Author.Needs.{needs}
 use Rattle.paper.specs.Answers.{pointedAs}
-use Rattle.judge.proofs.Looking.{located-cells}
-use Rattle.judge.proofs.Answering.{point-refused, point-sizes, point-crossed, point-answered}
+use Rattle.judge.proofs.PointAnswers.{point-unopened}
 use Rattle.judge.proofs.point.Statement.{statement}
 use Rattle.judge.proofs.point.Tie as tie
 
-crossing-requires : tie.Need-crossing-requires
-crossing-requires c κs = search needs
+open-refusal-requires : tie.Need-open-refusal-requires
+open-refusal-requires c κs = search needs
 
 returns : tie.Need-returns
 unfolding pointedAs
-returns c = point-refused (c .before .before .crossing .ensures) (c .if1 .taken)
+returns c =
+    point-unopened _ _ _ (c .before .open-refusal .ensures) (c .if1 .taken)
 
-point-requires : tie.Need-point-requires
-point-requires c κs =
-    let at = c .before .before .before .before .before .before .before .crossing .ensures in
-    let none = c .before .before .before .before .before .if1 .left in
-    (located-cells (at .finds none), (point-crossed at none, point-sizes at none))
+opened-dimension-requires : tie.Need-opened-dimension-requires
+opened-dimension-requires c κs = search needs
+
+point-in-requires : tie.Need-point-in-requires
+point-in-requires c κs = search needs
 
 returns-2 : tie.Need-returns-2
-unfolding pointedAs
-returns-2 c =
-    let at = c .before .before .before .before .before .before .before .before .crossing .ensures in
-    let none = c .before .before .before .before .before .before .if1 .left in
-    point-answered at none _ (c .point .ensures)
+returns-2 c = search needs
 
 pub point-spec : {M : Type 1} → statement M
-point-spec = tie.close (tie.spec crossing-requires returns point-requires returns-2)
+point-spec =
+    tie.close
+    (tie.spec open-refusal-requires returns opened-dimension-requires point-in-requires returns-2)

@@ -8,7 +8,7 @@ use Rattle.paper.specs.Operations.{facetRefusal, facetOf, placeBad, crossedIn, 
 use Rattle.paper.proofs.Refusals.{refuse-later}
 use Rattle.paper.proofs.Opens.{Opens, opens}
 use Rattle.paper.proofs.Bodies.{start-length}
-use Rattle.judge.proofs.Looking.{right-form}
+use Rattle.judge.proofs.PlaceForm.{right-form}
 
 pub first-assoc : (a b c : ℕ) → firstRefusal (firstRefusal a b) c ≡ firstRefusal a (firstRefusal b c)
 unfolding firstRefusal
