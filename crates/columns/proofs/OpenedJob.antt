@@ -40,7 +40,7 @@ module _ {n : ℕ} {s : List ℕ} (j : JobOf n s) where
   opened : Opens s
   opened = opens s (j .opens)
 
-  job-dimension : dimensionOk n ≡ true
+  pub job-dimension : dimensionOk n ≡ true
   job-dimension = rw (j .dimension) (opened .dimensions)
 
   pub job-axes : Axes n

@@ -31,7 +31,7 @@ point-refused s p k e h =
     ∙ ap paddedPoint (sym (unless-refused (pointRefusal s p) (pointOf (dimension s) (fieldOf s) (facetOf s p)) (λ z. h (e ∙ z))))
 
 -- Open's refusal is Point's
-point-not-opened : (s p : List ℕ) → (openRefusal s ≡ 0 → ⊥) → pointRefusal s p ≡ openRefusal s
+pub point-not-opened : (s p : List ℕ) → (openRefusal s ≡ 0 → ⊥) → pointRefusal s p ≡ openRefusal s
 unfolding pointRefusal
 point-not-opened s p h =
     let e : judgeRefusal s p ≡ openRefusal s = judge-not-opened s p h in

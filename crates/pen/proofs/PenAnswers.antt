@@ -1,4 +1,4 @@
--- What each return of Pen says, as the paper's answer. The dimension n is the job's, read by the code.
+-- What each return of Pen says, as the paper's answer. n is the job's dimension, as the code holds it.
 use Prim.Native.Nat.{ℕ, suc, _+_, _*_, _-_, _/_, _%_, _≤_, _<_}
 use native.Mathlib.Nat.{le-div-iff-mul-le}
 use native.Mathlib.Omega.{arith}
@@ -11,16 +11,11 @@ use borrow.Author.Tests.{eq-eqb, ne-eqb, lt-ltb, le-ltb}
 use Rattle.paper.specs.Job.{dimension, refuseIf, openRefusal}
 use Rattle.paper.specs.Operations.{refused, answered, unless, pointRefusal}
 use Rattle.paper.specs.Pen.{close, placeBytes, placeCount, pointMillimetres, closes, penRefusal, penMove, penned}
-use Rattle.paper.proofs.Tests.{DimensionRange}
 use Rattle.paper.proofs.Refusals.{first-refuses, first-passes, refuse-here, refuse-later, unless-refused, unless-answered}
-use Rattle.paper.proofs.Opens.{opens, opens-range}
+use Rattle.job.specs.OpenJob.{JobOf}
 use Rattle.pen.specs.Moves.{closesAt, moveTo, movedTo}
 
 -- ---- sizes
-
--- the dimension of a job that opens is 2 or 3
-pub opened-range : (s : List ℕ) {l n : ℕ} → l ≡ openRefusal s → l ≡ 0 → n ≡ dimension s → DimensionRange n
-opened-range s r z e = subst DimensionRange (sym e) (opens-range (opens s (sym r ∙ z)))
 
 -- place k of a list of places lies within it
 pub place-ends : (size k : ℕ) (ps : List ℕ) → 0 < size → k < length ps / size → size * k + size ≤ length ps
@@ -42,10 +37,12 @@ module _ (s ps : List ℕ) (mark : Bool) (k : ℕ) where
   pen-not-opened l e h =
       refusal-answers l (first-refuses (openRefusal s) _ (λ z. h (e ∙ z)) ∙ sym e) (omega (arith, h))
 
-  -- the job opens, and n is its dimension
-  module _ (l n : ℕ) (r : l ≡ openRefusal s) (z : l ≡ 0) (e : n ≡ dimension s) where
+  module _ {n : ℕ} (job : JobOf n s) where
     o : openRefusal s ≡ 0
-    o = sym r ∙ z
+    o = job .opens
+
+    e : n ≡ dimension s
+    e = job .dimension
 
     pub pen-uneven : (length ps % (3 * n) ≡ 0 → ⊥) → refused 13 ≡ penned s ps mark k
     unfolding penRefusal

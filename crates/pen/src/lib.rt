@@ -9,6 +9,7 @@ ghost use mathlib.Core.Path.{_≡_};
 ghost use mathlib.Core.List.{[], _∷_, map};
 ghost use Rattle.exact.specs.Size.{Size};
 ghost use Rattle.paper.specs.Pen.{millimetre, millimetresAs, penned, pennedAs};
+ghost use Rattle.job.specs.OpenJob.{JobOf};
 ghost use Rattle.pen.specs.Moves.{wholeLimit, StepSizes, closesAt, movedTo};
 
 // A number of steps in millimetres: cast without loss, then divided by 1024 without rounding.
@@ -45,10 +46,11 @@ fn closes(count: usize, closed: bool, k: usize) -> bool
 }
 
 // Place k: 13, 9, 10, 11, else a lift to its point for k = 0 and a draw for any other.
-fn move_to(job: &[u8], place: &[u8], k: usize) -> Penned
+fn move_to(job: &[u8], n: usize, place: &[u8], k: usize) -> Penned
+    requires { ⌜ JobOf n (now job) ⌝ }
     ensures { λ r. ⌜ pennedAs r ≡ movedTo (now (job .entry)) (now (place .entry)) k ⌝ }
 {
-    match judge::point(job, place) {
+    match judge::point_in(job, n, place) {
         Pointed::Refused(number) => Penned::Refused(number),
         Pointed::At(at) => {
             let point = millimetres(at);
@@ -68,7 +70,8 @@ pub fn pen(job: &[u8], places: &[u8], closed: bool, k: usize) -> Penned
     if refusal != 0 {
         return Penned::Refused(refusal);
     }
-    let size = 3 * job::opened_dimension(job);
+    let n = job::opened_dimension(job);
+    let size = 3 * n;
     if places.len() % size != 0 {
         return Penned::Refused(13);
     }
@@ -81,5 +84,5 @@ pub fn pen(job: &[u8], places: &[u8], closed: bool, k: usize) -> Penned
     }
     let from = size * k;
     let to = from + size;
-    move_to(job, &places[from..to], k)
+    move_to(job, n, &places[from..to], k)
 }

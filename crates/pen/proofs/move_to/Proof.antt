@@ -7,8 +7,8 @@ use Rattle.pen.proofs.PointMoves.{move-refused, step-sizes, move-lift, 
 use Rattle.pen.proofs.move_to.Statement.{statement}
 use Rattle.pen.proofs.move_to.Tie as tie
 
-point-requires : tie.Need-point-requires
-point-requires c κs = search needs
+point-in-requires : tie.Need-point-in-requires
+point-in-requires c κs = search needs
 
 enum-known-number : tie.Need-enum-known-number
 enum-known-number c = search needs
@@ -20,33 +20,33 @@ millimetres-requires : tie.Need-millimetres-requires
 unfolding pointedAs
 millimetres-requires c κs =
     step-sizes _ _ (c .before .before .before .before .before .before .args .k) (c .before .at .given .0 .0)
-    (ap pointedAs (sym (c .before .at .given .1)) ∙ c .before .before .before .point .ensures)
+    (ap pointedAs (sym (c .before .at .given .1)) ∙ c .before .before .before .point-in .ensures)
 
 returns : tie.Need-returns
 unfolding pointedAs pennedAs moveAs
 returns c =
     move-lift _ _ (c .before .before .before .before .before .before .before .before .args .k) (c .before .before .before .at .given .0 .0)
-    (ap pointedAs (sym (c .before .before .before .at .given .1)) ∙ c .before .before .before .before .before .point .ensures)
+    (ap pointedAs (sym (c .before .before .before .at .given .1)) ∙ c .before .before .before .before .before .point-in .ensures)
     _ (c .before .millimetres .ensures) (c .if1 .taken)
 
 returns-2 : tie.Need-returns-2
 unfolding pointedAs pennedAs
 returns-2 c =
     move-refused _ _ (c .before .before .before .before .before .before .args .k) (c .before .number .given .0 .0)
-    (ap pointedAs (sym (c .before .number .given .1)) ∙ c .before .before .before .point .ensures)
+    (ap pointedAs (sym (c .before .number .given .1)) ∙ c .before .before .before .point-in .ensures)
 
 returns-3 : tie.Need-returns-3
 unfolding pointedAs pennedAs moveAs
 returns-3 c =
     move-draw _ _ (c .before .before .before .before .before .before .before .before .args .k) (c .before .before .before .at .given .0 .0)
-    (ap pointedAs (sym (c .before .before .before .at .given .1)) ∙ c .before .before .before .before .before .point .ensures)
+    (ap pointedAs (sym (c .before .before .before .at .given .1)) ∙ c .before .before .before .before .before .point-in .ensures)
     _ (c .before .millimetres .ensures) (c .if1 .left)
 
 pub move-to-spec : {M : Type 1} → statement M
 move-to-spec =
     tie.close
     (tie.spec
-    point-requires
+    point-in-requires
     enum-known-number
     enum-known-at
     millimetres-requires

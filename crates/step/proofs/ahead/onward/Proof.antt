@@ -1,0 +1,61 @@
+-- `ahead::onward` meets its contract: the simplex found is the one on the place's side, and its exit leads on.
+use Rattle.columns.proofs.OpenedJob.{job-dimension, job-axes}
+use Rattle.columns.proofs.FacetColumns.{zero-cells}
+use Rattle.step.proofs.HeldPlaces.{held-form, low-orders, corner-values, corner-orders}
+use Rattle.step.proofs.SimplexStep.{no-stop, at-edge, at-limit, way-inside, leads}
+use Rattle.step.proofs.ahead.onward.Statement.{statement}
+use Rattle.step.proofs.ahead.onward.Tie as tie
+
+find-requires : tie.Need-find-requires
+find-requires c κs =
+    let h = c .before .pre in
+    (job-dimension (h .job), held-form h)
+
+corner-of-requires : tie.Need-corner-of-requires
+corner-of-requires c κs =
+    let h = c .before .before .pre in
+    (c .find .ensures .table, low-orders h)
+
+simplex-of-requires : tie.Need-simplex-of-requires
+simplex-of-requires c κs =
+    let h = c .before .before .before .before .pre in
+    let f = c .before .before .find .ensures in
+    (h .job, (f .table, (corner-values h (f .table) (c .before .corner-of .ensures), zero-cells (job-axes (h .job)))))
+
+returns : tie.Need-returns
+returns c =
+    at-edge (c .before .before .before .before .before .before .pre) (c .before .before .before .before .find .ensures) (c .before .before .before .corner-of .ensures) (c .before .simplex-of .ensures) (c .if1 .taken)
+
+returns-2 : tie.Need-returns-2
+returns-2 c =
+    at-limit (c .before .before .before .before .before .before .before .pre) (c .before .before .before .before .before .find .ensures) (c .before .before .before .before .corner-of .ensures) (c .before .before .simplex-of .ensures) (c .if2 .taken)
+
+exit-requires : tie.Need-exit-requires
+exit-requires c κs =
+    (c .before .before .before .simplex-of .ensures .cells, c .before .before .before .before .before .before .find .ensures .vertex)
+
+next-requires : tie.Need-next-requires
+next-requires c κs =
+    let h = c .before .before .before .before .before .before .before .before .before .pre in
+    let f = c .before .before .before .before .before .before .before .find .ensures in
+    let k = c .before .before .before .before .before .before .corner-of .ensures in
+    let v = c .before .before .before .before .simplex-of .ensures in
+    (f .table, (way-inside h f k v (no-stop v (c .before .before .before .if1 .left) (c .before .before .if2 .left)) (c .exit .ensures), corner-orders h (f .table) k))
+
+returns-3 : tie.Need-returns-3
+returns-3 c =
+    let v = c .before .before .before .before .before .simplex-of .ensures in
+    leads (c .before .before .before .before .before .before .before .before .before .before .pre) (c .before .before .before .before .before .before .before .before .find .ensures) (c .before .before .before .before .before .before .before .corner-of .ensures) v (no-stop v (c .before .before .before .before .if1 .left) (c .before .before .before .if2 .left)) (c .before .exit .ensures) (c .next .ensures)
+
+pub onward-spec : {M : Type 1} → statement M
+onward-spec =
+    tie.close
+    (tie.spec
+    find-requires
+    corner-of-requires
+    simplex-of-requires
+    returns
+    returns-2
+    exit-requires
+    next-requires
+    returns-3)

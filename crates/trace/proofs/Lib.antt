@@ -1,0 +1,3 @@
+-- Laws that the functions' proofs cite, a file for each idea.
+pub mod UnderWay
+pub mod TraceAnswers

@@ -1,0 +1,38 @@
+-- `trace_in` meets its contract: refused as the paper's chain says, or the walk from the job's start.
+use borrow.Author.Needs.{needs}
+use Rattle.columns.proofs.OpenedJob.{job-axes}
+use Rattle.columns.proofs.FacetColumns.{zero-cells}
+use Rattle.step.proofs.CrossingHeld.{found-held}
+use Rattle.trace.proofs.TraceAnswers.{at-start, start-refused, start-answered}
+use Rattle.trace.proofs.trace_in.Statement.{statement}
+use Rattle.trace.proofs.trace_in.Tie as tie
+
+opened-body-requires : tie.Need-opened-body-requires
+opened-body-requires c κs = search needs
+
+crossing-in-requires : tie.Need-crossing-in-requires
+crossing-in-requires c κs =
+    (c .before .before .before .before .pre, zero-cells (job-axes (c .before .before .before .before .pre)))
+
+returns : tie.Need-returns
+returns c =
+    let k = at-start (c .before .before .before .before .before .before .before .pre) (c .before .before .crossing-in .ensures) (c .before .before .before .before .opened-body .ensures .1) in
+    let e = start-refused (c .before .before .before .before .before .before .before .pre) k (c .before .before .before .before .before .before .before .args .buffer .now) (c .if1 .taken) in
+    (e .answer, e .buffer)
+
+walk-requires : tie.Need-walk-requires
+walk-requires c κs =
+    found-held (c .before .before .before .before .before .before .before .before .before .pre) (at-start (c .before .before .before .before .before .before .before .before .before .pre) (c .before .before .before .before .crossing-in .ensures) (c .before .before .before .before .before .before .opened-body .ensures .1)) (c .before .before .if1 .left)
+
+same-length : tie.Need-same-length
+same-length c = search needs
+
+returns-2 : tie.Need-returns-2
+returns-2 c =
+    let k = at-start (c .before .before .before .before .before .before .before .before .before .before .before .before .pre) (c .before .before .before .before .before .before .before .crossing-in .ensures) (c .before .before .before .before .before .before .before .before .before .opened-body .ensures .1) in
+    let e = start-answered (c .before .before .before .before .before .before .before .before .before .before .before .before .pre) k (c .before .before .before .before .before .if1 .left) (c .before .before .walk .ensures) in
+    (e .answer, e .buffer)
+
+pub trace-in-spec : {M : Type 1} → statement M
+trace-in-spec =
+    tie.close (tie.spec opened-body-requires crossing-in-requires returns walk-requires same-length returns-2)

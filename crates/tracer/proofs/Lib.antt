@@ -1,3 +1,0 @@
--- Laws that the functions' proofs cite, a file for each idea.
-pub mod Tracing
-pub mod TraceAnswers
