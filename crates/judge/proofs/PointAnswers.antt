@@ -7,8 +7,7 @@ use lib.Dec.{lit≤}
 use lib.IntN.{ℤ}
 use Rattle.exact.specs.Int.{0ℤ}
 use Rattle.exact.proofs.SizeLaws.{size-weaken}
-use Rattle.curves.specs.Grid.{Facet, facetVertices}
-use Rattle.curves.specs.Step.{columns}
+use Rattle.curves.specs.Grid.{Facet}
 use Rattle.paper.specs.Job.{dimension, openRefusal, refuseIf}
 use Rattle.paper.specs.Values.{fieldOf, pointFrom, pointOf}
 use Rattle.paper.specs.Operations.{refused, answered, crossedIn, facetOf, pointed, judgeRefusal, pointRefusal}

@@ -2,7 +2,6 @@
 use Prim.Native.Nat.{ℕ, suc, zero}
 use mathlib.Core.Path.{_≡_, refl, sym, subst}
 use native.Mathlib.Omega.{arith}
-use lib.IntN.{ℤ}
 use lib.ListN.{getD, replicate}
 use Rattle.exact.specs.Int.{0ℤ}
 use Rattle.exact.specs.Size.{Size}

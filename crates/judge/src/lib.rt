@@ -51,9 +51,9 @@ pub fn place_in(job: &[u8], n: usize, p: &[u8], cells: &mut [i64; 15]) -> JobPla
         return refused(13);
     }
     let place = places::read_place(n, p);
-    let refusal = columns::facet_values(job, n, place, cells);
-    if refusal != 0 {
-        return refused(refusal);
+    let number = columns::facet_values(job, n, place, cells);
+    if number != 0 {
+        return refused(number);
     }
     JobPlace { refusal: 0, place }
 }
@@ -111,9 +111,8 @@ pub fn point(job: &[u8], place: &[u8]) -> Pointed
     ensures { λ r. ⌜ pointedAs r ≡ paddedPoint (pointed (now (job .entry)) (now (place .entry))) ⌝ }
 {
     let refusal = job::open_refusal(job);
-    if refusal != 0 {
-        return Pointed::Refused(refusal);
+    if refusal == 0 {
+        return point_in(job, job::opened_dimension(job), place);
     }
-    let n = job::opened_dimension(job);
-    point_in(job, n, place)
+    Pointed::Refused(refusal)
 }

@@ -10,8 +10,7 @@ place-in-requires : tie.Need-place-in-requires
 place-in-requires c κs = search needs
 
 returns : tie.Need-returns
-returns c =
-    refused-before (c .before .before .before .before .before .before .pre .0) (c .before .before .place-in .ensures) (c .if1 .taken)
+returns c = refused-before (c .before .before .before .before .before .before .pre .0) (c .before .before .place-in .ensures) (c .if1 .taken)
 
 crossed-requires : tie.Need-crossed-requires
 crossed-requires c κs = search needs

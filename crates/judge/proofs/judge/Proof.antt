@@ -15,8 +15,7 @@ open-refusal-requires c κs = search needs
 
 returns : tie.Need-returns
 unfolding judgedAs
-returns c =
-    judge-unopened _ _ _ (c .before .open-refusal .ensures) (c .if1 .taken)
+returns c = judge-unopened _ _ _ (c .before .open-refusal .ensures) (c .if1 .taken)
 
 opened-dimension-requires : tie.Need-opened-dimension-requires
 opened-dimension-requires c κs = search needs
@@ -28,8 +27,7 @@ place-in-requires c κs =
 
 returns-2 : tie.Need-returns-2
 unfolding judgedAs
-returns-2 c =
-    judge-refused _ _ _ (c .before .before .place-in .ensures .number) (c .if2 .taken)
+returns-2 c = judge-refused _ _ _ (c .before .before .place-in .ensures .number) (c .if2 .taken)
 
 crossed-requires : tie.Need-crossed-requires
 crossed-requires c κs = search needs
@@ -38,13 +36,13 @@ returns-3 : tie.Need-returns-3
 unfolding judgedAs
 returns-3 c =
     let job = opened (c .before .before .before .before .before .before .before .before .before .open-refusal .ensures) (c .before .before .before .before .before .before .before .before .if1 .left) (c .before .before .before .before .before .before .before .opened-dimension .ensures) in
-    judge-answered true job (c .before .before .before .before .before .place-in .ensures) (c .before .before .before .if2 .left) (sym (c .before .crossed .ensures) ∙ (c .if3 .taken))
+    judge-answered true job (c .before .before .before .before .before .place-in .ensures) (c .before .before .before .if2 .left) (sym (c .before .crossed .ensures) ∙ c .if3 .taken)
 
 returns-4 : tie.Need-returns-4
 unfolding judgedAs
 returns-4 c =
     let job = opened (c .before .before .before .before .before .before .before .before .before .open-refusal .ensures) (c .before .before .before .before .before .before .before .before .if1 .left) (c .before .before .before .before .before .before .before .opened-dimension .ensures) in
-    judge-answered false job (c .before .before .before .before .before .place-in .ensures) (c .before .before .before .if2 .left) (sym (c .before .crossed .ensures) ∙ (c .if3 .left))
+    judge-answered false job (c .before .before .before .before .before .place-in .ensures) (c .before .before .before .if2 .left) (sym (c .before .crossed .ensures) ∙ c .if3 .left)
 
 pub judge-spec : {M : Type 1} → statement M
 judge-spec =

@@ -37,7 +37,7 @@ read-place-requires c κs = search needs
 facet-values-requires : tie.Need-facet-values-requires
 unfolding moveLimit
 facet-values-requires c κs =
-    ((c .before .before .before .before .before .before .before .pre .0), (vertex-wider (c .before .read-place .ensures .size) (lit≤ tt), (c .before .before .before .before .before .before .before .pre .1)))
+    (c .before .before .before .before .before .before .before .pre .0, (vertex-wider (c .before .read-place .ensures .size) (lit≤ tt), (c .before .before .before .before .before .before .before .pre .1)))
 
 refused-requires-3 : tie.Need-refused-requires-3
 refused-requires-3 c κs = search needs

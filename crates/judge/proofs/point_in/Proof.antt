@@ -7,18 +7,16 @@ use Rattle.judge.proofs.point_in.Statement.{statement}
 use Rattle.judge.proofs.point_in.Tie as tie
 
 crossing-in-requires : tie.Need-crossing-in-requires
-crossing-in-requires c κs =
-    ((c .before .before .before .pre), zero-cells (job-axes (c .before .before .before .pre)))
+crossing-in-requires c κs = (c .before .before .before .pre, zero-cells (job-axes (c .before .before .before .pre)))
 
 returns : tie.Need-returns
 unfolding pointedAs
-returns c =
-    point-refused _ _ _ (c .before .before .crossing-in .ensures .number) (c .if1 .taken)
+returns c = point-refused _ _ _ (c .before .before .crossing-in .ensures .number) (c .if1 .taken)
 
 point-requires : tie.Need-point-requires
 point-requires c κs =
-    let at = (c .before .before .before .crossing-in .ensures) in
-    let none = (c .before .if1 .left) in
+    let at = c .before .before .before .crossing-in .ensures in
+    let none = c .before .if1 .left in
     (at .within, (at .crossed none, low-size (at .finds none .place .size)))
 
 returns-2 : tie.Need-returns-2

@@ -46,12 +46,12 @@ closes-requires c κs = search needs
 returns-3 : tie.Need-returns-3
 unfolding pennedAs moveAs
 returns-3 c =
-    pen-closes _ _ _ _ (opened (c .before .before .before .before .before .open-refusal .ensures) (c .before .before .before .before .if1 .left) (c .before .before .before .opened-dimension .ensures)) (c .before .before .if2 .left) (sym (c .before .closes .ensures) ∙ (c .if3 .taken))
+    pen-closes _ _ _ _ (opened (c .before .before .before .before .before .open-refusal .ensures) (c .before .before .before .before .if1 .left) (c .before .before .before .opened-dimension .ensures)) (c .before .before .if2 .left) (sym (c .before .closes .ensures) ∙ c .if3 .taken)
 
 returns-4 : tie.Need-returns-4
 unfolding pennedAs
 returns-4 c =
-    pen-past _ _ _ _ (opened (c .before .before .before .before .before .before .open-refusal .ensures) (c .before .before .before .before .before .if1 .left) (c .before .before .before .before .opened-dimension .ensures)) (c .before .before .before .if2 .left) (sym (c .before .before .closes .ensures) ∙ (c .before .if3 .left)) (c .if4 .taken)
+    pen-past _ _ _ _ (opened (c .before .before .before .before .before .before .open-refusal .ensures) (c .before .before .before .before .before .if1 .left) (c .before .before .before .before .opened-dimension .ensures)) (c .before .before .before .if2 .left) (sym (c .before .before .closes .ensures) ∙ c .before .if3 .left) (c .if4 .taken)
 
 -- place k ends within the list
 part-move-to-end : tie.Need-part-move-to-end
@@ -76,8 +76,8 @@ move-to-requires c κs = search needs
 
 returns-5 : tie.Need-returns-5
 returns-5 c =
-    (c .move-to .ensures)
-    ∙ pen-at _ _ _ _ (opened (c .before .before .before .before .before .before .before .before .open-refusal .ensures) (c .before .before .before .before .before .before .before .if1 .left) (c .before .before .before .before .before .before .opened-dimension .ensures)) (c .before .before .before .before .before .if2 .left) (sym (c .before .before .before .before .closes .ensures) ∙ (c .before .before .before .if3 .left)) (c .before .before .if4 .left) _ refl
+    c .move-to .ensures
+    ∙ pen-at _ _ _ _ (opened (c .before .before .before .before .before .before .before .before .open-refusal .ensures) (c .before .before .before .before .before .before .before .if1 .left) (c .before .before .before .before .before .before .opened-dimension .ensures)) (c .before .before .before .before .before .if2 .left) (sym (c .before .before .before .before .closes .ensures) ∙ c .before .before .before .if3 .left) (c .before .before .if4 .left) _ refl
 
 pub pen-spec : {M : Type 1} → statement M
 pen-spec =
