@@ -1,6 +1,6 @@
 -- The simplex with a corner and a row's order, when the masks of its vertices are read from the table one by one.
 use Prim.Native.Nat.{ℕ}
-use mathlib.Core.Path.{_≡_, subst, ap₂, _∙_}
+use mathlib.Core.Path.{_≡_, subst, _∙_}
 use mathlib.Core.List.{List, [], _∷_, map}
 use lib.IntN.{ℤ}
 use lib.ListN.{take}

@@ -1,7 +1,7 @@
 -- `ahead::onward` meets its contract: the simplex found is the one on the place's side, and its exit leads on.
 use Rattle.columns.proofs.OpenedJob.{job-dimension, job-axes}
 use Rattle.columns.proofs.FacetColumns.{zero-cells}
-use Rattle.step.proofs.HeldPlaces.{held-form, low-orders, corner-values, corner-orders}
+use Rattle.step.proofs.HeldPlaces.{held-form, low-moves, corner-shifts, corner-moves}
 use Rattle.step.proofs.SimplexStep.{no-stop, at-edge, at-limit, way-inside, leads}
 use Rattle.step.proofs.ahead.onward.Statement.{statement}
 use Rattle.step.proofs.ahead.onward.Tie as tie
@@ -14,13 +14,13 @@ find-requires c κs =
 corner-of-requires : tie.Need-corner-of-requires
 corner-of-requires c κs =
     let h = c .before .before .pre in
-    (c .find .ensures .table, low-orders h)
+    (c .find .ensures .table, low-moves h)
 
 simplex-of-requires : tie.Need-simplex-of-requires
 simplex-of-requires c κs =
     let h = c .before .before .before .before .pre in
     let f = c .before .before .find .ensures in
-    (h .job, (f .table, (corner-values h (f .table) (c .before .corner-of .ensures), zero-cells (job-axes (h .job)))))
+    (h .job, (f .table, (corner-shifts h (c .before .corner-of .ensures), zero-cells (job-axes (h .job)))))
 
 returns : tie.Need-returns
 returns c =
@@ -40,7 +40,7 @@ next-requires c κs =
     let f = c .before .before .before .before .before .before .before .find .ensures in
     let k = c .before .before .before .before .before .before .corner-of .ensures in
     let v = c .before .before .before .before .simplex-of .ensures in
-    (f .table, (way-inside h f k v (no-stop v (c .before .before .before .if1 .left) (c .before .before .if2 .left)) (c .exit .ensures), corner-orders h (f .table) k))
+    (f .table, (way-inside h f k v (no-stop v (c .before .before .before .if1 .left) (c .before .before .if2 .left)) (c .exit .ensures), corner-moves h k))
 
 returns-3 : tie.Need-returns-3
 returns-3 c =
