@@ -1,12 +1,14 @@
 -- A held place is well-formed and its bytes can name it; a place that a step leads to has coordinates of the same size.
 use Prim.Native.Nat.{ℕ, _≤_}
 use native.Mathlib.Omega.{arith}
-use mathlib.Core.Path.{_≡_, subst, _∙_}
+use mathlib.Core.Path.{_≡_, sym, subst, _∙_}
 use mathlib.Core.Bool.{true}
 use mathlib.Core.List.{List}
 use lib.IntN.{ℤ, natAbs}
 use lib.ListN.{drop}
+use lib.Seq.{getD-take}
 use lib.Dec.{lit≤}
+use Rattle.exact.specs.Int.{0ℤ}
 use Rattle.exact.specs.Size.{Size}
 use Rattle.curves.specs.Grid.{placeOk}
 use Rattle.curves.specs.Step.{every}
@@ -56,7 +58,9 @@ short-size x h = record { size = subst (λ z. natAbs z ≤ 32768) (short-back x 
 low-sized : (n : ℕ) (v u : Vertex) → Axes n → every short (vertexAs n u) ≡ true → drop n (vertexAs 4 u) ≡ drop n (vertexAs 4 v)
     → VertexSize heldLimit v → VertexSize heldLimit u
 unfolding vertexAs
-low-sized n v u a h e s = size-parts n heldLimit v u e s (λ k l. short-size _ (coordinate-short n u h k l (omega (arith, a .high))))
+low-sized n v u a h e s =
+    size-parts n heldLimit v u e s
+    (λ k l. subst (Size heldLimit) (sym (getD-take n (vertexAs 4 u) k 0ℤ l)) (short-size _ (coordinate-short n u h k l (omega (arith, a .high)))))
 
 module _ {s : List ℕ} {n : ℕ} {p : HeldPlace} (h : Held s n p) where
   pub low-moves : VertexSize Orders.moveLimit (p .low)

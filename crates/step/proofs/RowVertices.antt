@@ -10,7 +10,7 @@ use Rattle.places.specs.declared.Vertex.{Vertex}
 use Rattle.columns.specs.Vertices.{simplexVertices}
 use Rattle.columns.specs.Found.{SimplexFound}
 use Rattle.orders.specs.Table.{InTable, orderAt, vertexMask}
-use Rattle.orders.proofs.Rows.{row-vertices}
+use Rattle.orders.proofs.RowVertices.{row-vertices}
 
 pub row-found :
     {s : List ℕ} {n row m1 m2 m3 m4 number : ℕ} {cells : List ℤ} (corner : Vertex) → InTable n row
