@@ -1,9 +1,8 @@
 -- Point's answer has room for three axes; its first n numbers are the place's point, and so the line is the place's.
-use Prim.Native.Nat.{ℕ, suc, zero, _*_, _≤_}
+use Prim.Native.Nat.{ℕ, suc, zero, _≤_}
 use mathlib.Core.Path.{_≡_, refl, sym, ap, ap₂, _∙_}
 use mathlib.Core.List.{List, [], _∷_}
 use native.Mathlib.Omega.{arith}
-use lib.IntN.{ℤ}
 use lib.ListN.{length, take, length-map}
 use Rattle.exact.specs.Int.{0ℤ}
 use Rattle.exact.specs.Det.{Column}

@@ -2,6 +2,8 @@
 use Prim.Native.Nat.{zero-le}
 use native.Mathlib.Omega.{arith}
 use denote.Ref.{now}
+use Rattle.paper.specs.Listing.{placeLines}
+use Rattle.paper.specs.Demand3.{readPlaces}
 use Rattle.decimals.proofs.WrittenParts.{writes-then, writes-as}
 use Rattle.listing.proofs.TraceListed.{count-within, listed-lines}
 use Rattle.listing.proofs.ListingText.{trace-lines}
@@ -34,7 +36,8 @@ returns c =
     let s = c .before .before .before .before .before .before .before .before .before .before .before in
     writes-as (trace-lines (now (s .args .job)) (now (s .args .places)) (s .args .v) (s .args .count) (s .pre .1 .0) (s .pre .0 .dimension))
     (omega (arith, count-within (s .pre .0) (now (s .args .places)) (s .args .v) (s .args .count) (s .pre .1 .0)))
-    (writes-then zero-le (c .before .before .before .before .before .before .put-first .ensures) (λ i. c .before .before .put-places .ensures))
+    (writes-then zero-le (c .before .before .before .before .before .before .put-first .ensures)
+    {u = placeLines (now (s .args .job)) (readPlaces (s .args .n) (s .args .count) (now (s .args .places)))} (λ i. c .before .before .put-places .ensures))
 
 pub put-trace-spec : {M : Type 1} → statement M
 put-trace-spec = tie.close (tie.spec put-first-requires put-places-requires same-length returns)
