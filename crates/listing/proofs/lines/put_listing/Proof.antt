@@ -1,7 +1,9 @@
 -- `lines::put_listing` meets its contract: a job that is too long, one that does not open, and one that does.
+use Prim.Native.Nat.{_≤_, _<_}
 use mathlib.Core.Path.{_∙_}
 use native.Mathlib.Omega.{arith}
 use native.Mathlib.Nat.{le-refl}
+use lib.ListN.{length}
 use denote.Ref.{now}
 use Rattle.decimals.proofs.WrittenParts.{writes-as}
 use Rattle.listing.proofs.ListingText.{listing-long, places-kept, listing-short, places-written, listing-unopened, places-unopened}
@@ -18,7 +20,7 @@ same-length c = search needs
 returns : tie.Need-returns
 returns c =
     let s = c .before .before .before .before .before .before .before .before in
-    let long = c .before .before .before .before .if1 .taken in (
+    let long : 2048 < length (now (s .args .job)) = omega (arith, c .before .before .before .before .if1 .taken) in (
       writes-as (listing-long (now (s .args .job)) long) (omega arith) (c .before .before .put-refused .ensures),
       places-kept (now (s .args .job)) (now (s .args .places)) long,
     )
@@ -37,7 +39,7 @@ returns-2 c =
     let s = c .before .before .before .before .before .before .before .before .before .before in
     let number = c .before .before .before .before .before .open-refusal .ensures in
     let refuses = c .before .before .before .before .if2 .taken in
-    let short = c .before .before .before .before .before .before .if1 .left in (
+    let short : length (now (s .args .job)) ≤ 2048 = omega (arith, c .before .before .before .before .before .before .if1 .left) in (
       writes-as (listing-unopened (now (s .args .job)) number refuses short) (omega arith) (c .before .before .put-refused2 .ensures),
       places-unopened (now (s .args .job)) number refuses (now (s .args .places)) short,
     )
@@ -57,7 +59,7 @@ same-length-4 c = search needs
 returns-3 : tie.Need-returns-3
 returns-3 c =
     let s = c .before .before .before .before .before .before .before .before .before .before .before .before .before .before in
-    let short = c .before .before .before .before .before .before .before .before .before .before .if1 .left in
+    let short : length (now (s .args .job)) ≤ 2048 = omega (arith, c .before .before .before .before .before .before .before .before .before .before .if1 .left) in
     let lines = c .before .before .before .before .put-opened .ensures in (
       writes-as (listing-short (now (s .args .job)) short) (le-refl _) (lines .0),
       lines .1 ∙ places-written (now (s .args .job)) (now (s .args .places)) short,
