@@ -186,7 +186,7 @@ fn without_place(refusal: u64, outcome: u64) -> StepAnswer
 pub extern "C" fn gethwapiko_step(job: &[u8], place: &[u8]) -> StepAnswer
     ensures { λ r. ⌜ r ≡ stepNumbers (stepped (now (job .entry)) (now (place .entry))) ⌝ }
 {
-    match steps::step(job, place) {
+    match step::step(job, place) {
         Stepped::Refused(refusal) => without_place(refusal, 0),
         Stepped::Edge => without_place(0, 1),
         Stepped::Limit => without_place(0, 2),
@@ -220,7 +220,7 @@ pub extern "C" fn gethwapiko_trace(job: &[u8], buffer: &mut [u8]) -> TraceAnswer
     ensures answer { λ r. ⌜ r ≡ traceNumbers (verdictAndCount (traced (now (job .entry)) (spaceOf (now (job .entry)) (now (buffer .entry))))) ⌝ }
     ensures written { λ r. ⌜ now (buffer .exit) ≡ bufferAfter (traced (now (job .entry)) (spaceOf (now (job .entry)) (now (buffer .entry)))) (now (buffer .entry)) ⌝ }
 {
-    match tracer::trace(job, buffer) {
+    match trace::trace(job, buffer) {
         Traced::Refused(refusal) => TraceAnswer {
             refusal,
             verdict: 0,

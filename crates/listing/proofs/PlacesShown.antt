@@ -20,11 +20,14 @@ use Rattle.paper.specs.Operations.{facetOf, placeBad, facetRefusal, crossedIn, 
 use Rattle.paper.specs.Listing.{placeLines}
 use Rattle.paper.specs.Demand3.{readPlaces}
 use Rattle.paper.proofs.Refusals.{first-passes, refuse-later}
-use Rattle.paper.proofs.Opens.{Opens}
+use Rattle.paper.proofs.Opens.{Opens, opens}
 use Rattle.paper.proofs.WithStart.{opens-back}
+use Rattle.bits.specs.Axes.{Axes}
+use Rattle.bits.proofs.EachDimension.{dimension-axes}
 use Rattle.decimals.specs.Written.{Writes}
 use Rattle.decimals.proofs.WrittenParts.{writes-nothing}
-use Rattle.listing.specs.Shown.{lineOf, LineAsked, AllShown, PlacesAsked}
+use Rattle.text.specs.Lines.{lineLimit}
+use Rattle.listing.specs.Shown.{lineOf, HasLine, HaveLines}
 
 -- ---- the first place and the rest
 
@@ -39,31 +42,29 @@ pub facet-at : (s p : List ℕ) {n : ℕ} → n ≡ dimension s → decodePlace 
 unfolding facetOf
 facet-at s p e = ap (λ (m : ℕ). decodePlace m p .facet) e
 
-pub record FirstAsked (n : ℕ) (s : List ℕ) (count : ℕ) (b : List ℕ) : Type 0 where
+pub line-axes : {n : ℕ} {s p : List ℕ} → HasLine n s p → Axes n
+line-axes {n} {s} h = dimension-axes n (rw (h .job .dimension) (opens s (h .job .opens) .dimensions))
+
+pub record FirstShown (n : ℕ) (s : List ℕ) (count : ℕ) (b : List ℕ) : Type 0 where
   pub room : 3 * n ≤ length b
-  pub line : LineAsked n s (take (3 * n) b)
-  pub rest : PlacesAsked n s (count - 1) (behind (3 * n) b)
+  pub line : HasLine n s (take (3 * n) b)
+  pub rest : HaveLines n s (count - 1) (behind (3 * n) b)
   pub text : lineOf s (take (3 * n) b) ++ placeLines s (readPlaces n (count - 1) (behind (3 * n) b)) ≡ placeLines s (readPlaces n count b)
 
-pub first-asked : {n : ℕ} {s : List ℕ} (count : ℕ) {b : List ℕ} → PlacesAsked n s count b → (count ≡ 0 → ⊥) → FirstAsked n s count b
-unfolding AllShown placeLines readPlaces
-first-asked {n} {s} zero {b} a h = absurd (h refl)
-first-asked {n} {s} (suc k) {b} a h =
+pub first-shown : {n : ℕ} {s : List ℕ} (count : ℕ) {b : List ℕ} → HaveLines n s count b → (count ≡ 0 → ⊥) → FirstShown n s count b
+unfolding HaveLines placeLines readPlaces
+first-shown {n} {s} zero {b} a h = absurd (h refl)
+first-shown {n} {s} (suc k) {b} a h =
     let one : suc k - 1 ≡ k = omega arith in
     record {
-      room = a .shown .0;
-      line = record {
-        dimension = a .dimension;
-        known = a .known;
-        whole = length-take-le (3 * n) b (a .shown .0);
-        passes = a .shown .1 .0;
-      };
-      rest = rw (one, behind-whole (3 * n) b) (record { dimension = a .dimension; known = a .known; shown = a .shown .1 .1 });
-      text = rw (one, behind-whole (3 * n) b, ← facet-at s (take (3 * n) b) (a .dimension));
+      room = a .0;
+      line = a .1 .0;
+      rest = rw (one, behind-whole (3 * n) b) (a .1 .1);
+      text = rw (one, behind-whole (3 * n) b, ← facet-at s (take (3 * n) b) (a .1 .0 .job .dimension));
     }
 
 pub no-lines : (n : ℕ) (s b out : List ℕ) (at : ℕ) {count : ℕ} → count ≡ 0
-    → Writes (174 * count) (placeLines s (readPlaces n count b)) at out out at
+    → Writes (lineLimit * count) (placeLines s (readPlaces n count b)) at out out at
 unfolding placeLines readPlaces
 no-lines n s b out at e = rw e (writes-nothing out at)
 
@@ -91,18 +92,23 @@ bytes-pass {s} o b l t =
     ∙ refuse-later 10 0 (ap not (and-right boxed read (parts .readable))))))
     ∙ refuse-later 11 0 (ap not (parts .crosses)))
 
-pub all-shown : {s : List ℕ} → Opens s → (k : ℕ) (b : List ℕ) → 3 * dimension s * k ≤ length b
-    → ((p : Place) → p ∈ readPlaces (dimension s) k b → Traceable (dimension s) (fieldOf s) p) → AllShown (dimension s) s k b
-unfolding AllShown readPlaces
-all-shown {s} o zero b l t = tt
-all-shown {s} o (suc k) b l t =
+pub have-lines : {s : List ℕ} → Opens s → (k : ℕ) (b : List ℕ) → 3 * dimension s * k ≤ length b
+    → ((p : Place) → p ∈ readPlaces (dimension s) k b → Traceable (dimension s) (fieldOf s) p) → HaveLines (dimension s) s k b
+unfolding HaveLines readPlaces
+have-lines {s} o zero b l t = tt
+have-lines {s} o (suc k) b l t =
     let n = dimension s in
     let more : 3 * n * suc k ≡ 3 * n * k + 3 * n = mul-suc (3 * n) k in
     let room : 3 * n ≤ length b = omega arith in
-    let left : 3 * n * k ≤ length (drop (3 * n) b) = rw length-drop (omega arith) in (
+    let left : 3 * n * k ≤ length (drop (3 * n) b) = rw length-drop (omega arith) in
+    let first : length (take (3 * n) b) ≡ 3 * n = length-take-le (3 * n) b room in (
       room,
       (
-        bytes-pass o (take (3 * n) b) (length-take-le (3 * n) b room) (t (decodePlace n (take (3 * n) b)) (List·Memᴰ·head refl)),
-        all-shown o k (drop (3 * n) b) left (λ p i. t p (List·Memᴰ·tail i)),
+        record {
+          job = record { opens = opens-back s o; dimension = refl };
+          whole = first;
+          passes = bytes-pass o (take (3 * n) b) first (t (decodePlace n (take (3 * n) b)) (List·Memᴰ·head refl));
+        },
+        have-lines o k (drop (3 * n) b) left (λ p i. t p (List·Memᴰ·tail i)),
       ),
     )

@@ -1,14 +1,13 @@
--- Point's answer has room for three axes; its first n numbers are the place's point.
+-- Point's answer has room for three axes; its first n numbers are the place's point, and so the line is the place's.
 use Prim.Native.Nat.{ℕ, suc, zero, _≤_}
 use mathlib.Core.Path.{_≡_, refl, sym, ap, ap₂, _∙_}
 use mathlib.Core.List.{List, [], _∷_}
 use native.Mathlib.Omega.{arith}
-use lib.IntN.{ℤ}
 use lib.ListN.{length, take, length-map}
 use Rattle.exact.specs.Int.{0ℤ}
 use Rattle.exact.specs.Det.{Column}
-use Rattle.exact.specs.Crossed.{countFrom}
-use Rattle.curves.specs.Grid.{Vertex}
+use Rattle.exact.proofs.CountFrom.{length-countFrom}
+use Rattle.curves.specs.Grid.{Place, Vertex}
 use Rattle.paper.specs.Job.{dimension, decodePlace}
 use Rattle.paper.specs.Values.{fieldOf, pointFrom, pointOf}
 use Rattle.paper.specs.Operations.{refused, answered, facetOf, pointRefusal, pointed}
@@ -16,19 +15,22 @@ use Rattle.paper.specs.Answers.{padded, paddedPoint, pointedAs}
 use Rattle.paper.specs.declared.StepPoint.{StepPoint}
 use Rattle.paper.specs.declared.Pointed as Pointed
 use Rattle.paper.specs.Listing.{placeLine}
-use Rattle.paper.specs.declared.Placed.{Placed}
-use Rattle.paper.proofs.Tests.{dimension-range}
 use Rattle.paper.proofs.Refusals.{unless-answered}
-use Rattle.text.specs.Lines.{shownFacet}
-use Rattle.listing.specs.Shown.{lineOf, LineAsked}
+use Rattle.paper.proofs.Opens.{opens, opens-range}
+use Rattle.places.specs.declared.HeldPlace.{HeldPlace}
+use Rattle.places.specs.Held.{facetAs, placeAs}
+use Rattle.places.specs.PlaceBytes.{PlaceRead}
+use Rattle.listing.specs.Shown.{lineOf, HasLine}
 use Rattle.listing.proofs.PlacesShown.{facet-at}
-use Rattle.judge.specs.Located.{placedFacet, PlaceRead}
-use Rattle.judge.proofs.Padded.{take-padded}
 
-count-length : (k m : ℕ) → length (countFrom k m) ≡ m
-unfolding countFrom
-count-length k zero = refl
-count-length k (suc m) = ap suc (count-length (suc k) m)
+-- what was put behind a list can be taken off again
+take-padded : {A : Type 0} (d : A) (k n : ℕ) (l : List A) → length l ≡ n → n ≤ k → take n (padded d k l) ≡ l
+unfolding padded
+take-padded d k zero [] e h = refl
+take-padded d k (suc n) [] e h = absurd (omega arith)
+take-padded d k zero (x ∷ l) e h = absurd (omega arith)
+take-padded d zero (suc n) (x ∷ l) e h = absurd (omega arith)
+take-padded d (suc k) (suc n) (x ∷ l) e h = ap (λ t. x ∷ t) (take-padded d k n l (omega arith) (omega arith))
 
 -- a point has a number for each axis
 point-length : (n : ℕ) (cs : List Column) (ms : List ℕ) (a : ℕ) (v : Vertex) → length (pointFrom n cs ms a v) ≡ length v
@@ -38,14 +40,14 @@ point-length n cs ms a (x ∷ v) = ap suc (point-length n cs ms (suc a) v)
 
 low-length : (s p : List ℕ) → length (facetOf s p .low) ≡ dimension s
 unfolding facetOf decodePlace
-low-length s p = simp length-map (count-length 0 (dimension s))
+low-length s p = simp length-map (length-countFrom 0 (dimension s))
 
 module _ (s p : List ℕ) (passes : pointRefusal s p ≡ 0) where
   padded-is : paddedPoint (pointed s p) ≡ answered (padded 0ℤ 3 (pointOf (dimension s) (fieldOf s) (facetOf s p)))
   unfolding pointed paddedPoint
   padded-is = ap paddedPoint (unless-answered (pointOf (dimension s) (fieldOf s) (facetOf s p)) passes)
 
-  pub point-shown : {found : Pointed.Pointed} {q : StepPoint} → found ≡ Pointed.the-variants.At q → pointedAs found ≡ paddedPoint (pointed s p)
+  point-shown : {found : Pointed.Pointed} {q : StepPoint} → found ≡ Pointed.the-variants.At q → pointedAs found ≡ paddedPoint (pointed s p)
       → dimension s ≤ 3 → take (dimension s) (q .x ∷ q .y ∷ q .z ∷ []) ≡ pointOf (dimension s) (fieldOf s) (facetOf s p)
   unfolding pointedAs pointOf
   point-shown {found} {q} e f h =
@@ -62,14 +64,12 @@ module _ (s p : List ℕ) (passes : pointRefusal s p ≡ 0) where
       let z : _≡_ {A = ℕ} 0 1 = cc in
       omega arith
 
--- the line that the numbers of a place and of its point make, once they are read from the bits
-pub line-shown : {n : ℕ} {s p : List ℕ} → LineAsked n s p → {r : Placed} → PlaceRead n p r
+-- the place read and the point make the line
+pub line-shown : {n : ℕ} {s p : List ℕ} → HasLine n s p → {r : HeldPlace} → PlaceRead n p r
     → {found : Pointed.Pointed} {q : StepPoint} → found ≡ Pointed.the-variants.At q → pointedAs found ≡ paddedPoint (pointed s p)
-    → {x y z px py pz : ℤ} → x ≡ r .x → y ≡ r .y → z ≡ r .z → px ≡ q .x → py ≡ q .y → pz ≡ q .z
-    → placeLine (shownFacet n x y z (r .mask1) (r .mask2)) (take n (px ∷ py ∷ pz ∷ [])) ≡ lineOf s p
-unfolding placedFacet
-line-shown {n} {s} {p} a {r} at {found} {q} e f ex ey ez fx fy fz =
-    let high : dimension s ≤ 3 = omega (arith, a .dimension, dimension-range n (a .known)) in
-    rw (ex, ey, ez, fx, fy, fz)
-    (ap₂ placeLine (at .facet ∙ facet-at s p (a .dimension))
-    (ap (λ (m : ℕ). take m (q .x ∷ q .y ∷ q .z ∷ [])) (a .dimension) ∙ point-shown s p (a .passes) e f high))
+    → placeLine (facetAs n r) (take n (q .x ∷ q .y ∷ q .z ∷ [])) ≡ lineOf s p
+unfolding placeAs
+line-shown {n} {s} {p} a {r} at {found} {q} e f =
+    ap₂ placeLine (ap (λ (x : Place). x .facet) (at .is) ∙ facet-at s p (a .job .dimension))
+    (ap (λ (m : ℕ). take m (q .x ∷ q .y ∷ q .z ∷ [])) (a .job .dimension)
+    ∙ point-shown s p (a .passes) e f (opens-range (opens s (a .job .opens)) .high))

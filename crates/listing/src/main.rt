@@ -1,29 +1,37 @@
 // The listing of document 01: reads one job from standard input and prints its lines. What is printed is `lines::put_listing`'s; here
-// is nothing but the reading and the writing. One byte more than the longest job is read, so that a longer one is seen.
+// is nothing but the reading and the writing.
 
 mod lines;
 
 ghost use mathlib.Core.Path.{_≡_};
 ghost use lib.ListN.{length};
+ghost use Rattle.listing.specs.Room.{jobRoom, placesRoom, textRoom};
 use libc::STDIN_FILENO;
 use libc::STDOUT_FILENO;
 
-// Room for 4,096 places in dimension 3.
-fn place_space() -> [u8; 36864]
-    ensures { λ r. ⌜ 36864 ≡ length r ⌝ }
+// Room for the longest job and one byte more, so that a longer one is seen.
+fn job_space() -> [u8; 2049]
+    ensures { λ r. ⌜ jobRoom ≡ length r ⌝ }
 {
-    [0; 36864]
+    [0; 2049]
+}
+
+// Room for 4,096 places in up to four axes.
+fn place_space() -> [u8; 49152]
+    ensures { λ r. ⌜ placesRoom ≡ length r ⌝ }
+{
+    [0; 49152]
 }
 
 // Room for the first line and 4,096 lines of places.
-fn text_space() -> [u8; 712752]
-    ensures { λ r. ⌜ 712752 ≡ length r ⌝ }
+fn text_space() -> [u8; 978992]
+    ensures { λ r. ⌜ textRoom ≡ length r ⌝ }
 {
-    [0; 712752]
+    [0; 978992]
 }
 
 fn main() {
-    let mut input = [0u8; 2049];
+    let mut input = job_space();
     let got = io::read_full(STDIN_FILENO, &mut input);
     let mut places = place_space();
     let mut out = text_space();

@@ -5,6 +5,9 @@ use borrow.Author.Needs.{needs}
 use Rattle.listing.proofs.main.Statement.{statement}
 use Rattle.listing.proofs.main.Tie as tie
 
+job-space-requires : tie.Need-job-space-requires
+job-space-requires c κs = search needs
+
 slice-aggregate-read-full : tie.Need-slice-aggregate-read-full
 slice-aggregate-read-full c = search needs
 
@@ -48,6 +51,7 @@ pub main-spec : {M : Type 1} → statement M
 main-spec =
     tie.close
     (tie.spec
+    job-space-requires
     slice-aggregate-read-full
     read-full-requires
     place-space-requires

@@ -2,9 +2,8 @@
 use mathlib.Core.Path.{sym, _∙_}
 use native.Mathlib.Omega.{arith}
 use lib.Seq.{length-take-le}
-use Rattle.paper.proofs.Tests.{dimension-range}
 use Rattle.decimals.proofs.WrittenParts.{writes-then, writes-as}
-use Rattle.listing.proofs.PlacesShown.{first-asked, no-lines}
+use Rattle.listing.proofs.PlacesShown.{line-axes, first-shown, no-lines}
 use Prim.Native.Nat.{ℕ, _<_}
 use borrow.Fn.Kinds.{In}
 use borrow.Fn.PlainCycle.{Measures, is, falls, and}
@@ -40,7 +39,7 @@ put-places-mul-width : (t : ℕ) → put-places-lts.Need-mul-width (
   put-places-below t,
   put-places.Post,
 ) (put-places-at t) put-places.Post
-put-places-mul-width t c = omega (arith, dimension-range _ (c .before .before .before .before .pre .1 .0 .known))
+put-places-mul-width t c = omega (arith, line-axes (first-shown _ (c .before .before .before .before .pre .1 .0) (c .if1 .left) .line))
 
 put-places-slice-aggregate-put-line : (t : ℕ) → put-places-lts.Need-slice-aggregate-put-line (
   put-line-reads.Asked,
@@ -48,7 +47,7 @@ put-places-slice-aggregate-put-line : (t : ℕ) → put-places-lts.Need-slice-ag
   put-places-below t,
   put-places.Post,
 ) (put-places-at t) put-places.Post
-put-places-slice-aggregate-put-line t c = sym (length-take-le _ _ (first-asked _ (c .before .before .before .before .before .pre .1 .0) (c .before .if1 .left) .room))
+put-places-slice-aggregate-put-line t c = sym (length-take-le _ _ (first-shown _ (c .before .before .before .before .before .pre .1 .0) (c .before .if1 .left) .room))
 
 put-places-put-line-requires : (t : ℕ) → put-places-lts.Need-put-line-requires (
   put-line-reads.Asked,
@@ -56,7 +55,7 @@ put-places-put-line-requires : (t : ℕ) → put-places-lts.Need-put-line-requir
   put-places-below t,
   put-places.Post,
 ) (put-places-at t) put-places.Post
-put-places-put-line-requires t c κs = (first-asked _ (c .before .before .before .before .before .before .pre .1 .0) (c .before .before .if1 .left) .line, omega (arith, c .before .before .before .before .before .before .pre .1 .1, c .before .before .if1 .left))
+put-places-put-line-requires t c κs = (first-shown _ (c .before .before .before .before .before .before .pre .1 .0) (c .before .before .if1 .left) .line, omega (arith, c .before .before .before .before .before .before .pre .1 .1, c .before .before .if1 .left))
 
 put-places-sub-put-places : (t : ℕ) → put-places-lts.Need-sub-put-places (
   put-line-reads.Asked,
@@ -64,7 +63,7 @@ put-places-sub-put-places : (t : ℕ) → put-places-lts.Need-sub-put-places (
   put-places-below t,
   put-places.Post,
 ) (put-places-at t) put-places.Post
-put-places-sub-put-places t c = omega (arith, first-asked _ (c .before .before .before .before .before .before .before .before .before .pre .1 .0) (c .before .before .before .before .before .if1 .left) .room)
+put-places-sub-put-places t c = omega (arith, first-shown _ (c .before .before .before .before .before .before .before .before .before .pre .1 .0) (c .before .before .before .before .before .if1 .left) .room)
 
 put-places-part-put-places-start : (t : ℕ) → put-places-lts.Need-part-put-places-start (
   put-line-reads.Asked,
@@ -72,7 +71,7 @@ put-places-part-put-places-start : (t : ℕ) → put-places-lts.Need-part-put-pl
   put-places-below t,
   put-places.Post,
 ) (put-places-at t) put-places.Post
-put-places-part-put-places-start t c = omega (arith, first-asked _ (c .before .before .before .before .before .before .before .before .before .pre .1 .0) (c .before .before .before .before .before .if1 .left) .room)
+put-places-part-put-places-start t c = omega (arith, first-shown _ (c .before .before .before .before .before .before .before .before .before .pre .1 .0) (c .before .before .before .before .before .if1 .left) .room)
 
 put-places-part-put-places-end : (t : ℕ) → put-places-lts.Need-part-put-places-end (
   put-line-reads.Asked,
@@ -80,7 +79,7 @@ put-places-part-put-places-end : (t : ℕ) → put-places-lts.Need-part-put-plac
   put-places-below t,
   put-places.Post,
 ) (put-places-at t) put-places.Post
-put-places-part-put-places-end t c = omega (arith, first-asked _ (c .before .before .before .before .before .before .before .before .before .pre .1 .0) (c .before .before .before .before .before .if1 .left) .room)
+put-places-part-put-places-end t c = omega (arith, first-shown _ (c .before .before .before .before .before .before .before .before .before .pre .1 .0) (c .before .before .before .before .before .if1 .left) .room)
 
 put-places-sub-put-places-2 : (t : ℕ) → put-places-lts.Need-sub-put-places-2 (
   put-line-reads.Asked,
@@ -102,7 +101,7 @@ put-places-put-places-requires t c κs =
     let l = c .before .before .before .before in (
       omega (arith, s .pre .0, i .if1 .left),
       (
-        first-asked _ (s .pre .1 .0) (i .if1 .left) .rest,
+        first-shown _ (s .pre .1 .0) (i .if1 .left) .rest,
         omega (arith, s .pre .1 .1, i .if1 .left, l .put-line .ensures, l .put-line .kept),
       ),
     )
@@ -122,7 +121,7 @@ put-places-returns-2 : (t : ℕ) → put-places-lts.Need-returns-2 (
   put-places.Post,
 ) (put-places-at t) put-places.Post
 put-places-returns-2 t c =
-    writes-as (first-asked _ (c .before .before .before .before .before .before .before .before .before .before .before .before .before .before .pre .1 .0) (c .before .before .before .before .before .before .before .before .before .before .if1 .left) .text) (omega (arith, c .before .before .before .before .before .before .before .before .before .before .if1 .left))
+    writes-as (first-shown _ (c .before .before .before .before .before .before .before .before .before .before .before .before .before .before .pre .1 .0) (c .before .before .before .before .before .before .before .before .before .before .if1 .left) .text) (omega (arith, c .before .before .before .before .before .before .before .before .before .before .if1 .left))
     (writes-then (omega (arith, c .before .before .before .before .before .before .before .before .before .before .before .before .before .before .pre .1 .1)) (c .before .before .before .before .before .before .before .put-line .ensures) (λ i. c .before .before .put-places .ensures))
 
 pub +put-places-spec : {M : Type 1} → statement M
