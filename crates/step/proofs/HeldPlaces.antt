@@ -4,11 +4,9 @@ use native.Mathlib.Omega.{arith}
 use mathlib.Core.Path.{_≡_, sym, subst, _∙_}
 use mathlib.Core.Bool.{true}
 use mathlib.Core.List.{List}
-use lib.IntN.{ℤ, natAbs}
+use lib.IntN.{ℤ}
 use lib.ListN.{drop}
-use lib.Seq.{getD-take}
 use lib.Dec.{lit≤}
-use Rattle.exact.specs.Int.{0ℤ}
 use Rattle.exact.specs.Size.{Size}
 use Rattle.curves.specs.Grid.{placeOk}
 use Rattle.curves.specs.Step.{every}
@@ -60,7 +58,7 @@ low-sized : (n : ℕ) (v u : Vertex) → Axes n → every short (vertexAs n u) �
 unfolding vertexAs
 low-sized n v u a h e s =
     size-parts n heldLimit v u e s
-    (λ k l. subst (Size heldLimit) (sym (getD-take n (vertexAs 4 u) k 0ℤ l)) (short-size _ (coordinate-short n u h k l (omega (arith, a .high)))))
+    (λ k l. subst (Size heldLimit) (sym (first-coordinates n u k l)) (held-size _ (coordinate-short n u h k l (omega (arith, a .high)))))
 
 module _ {s : List ℕ} {n : ℕ} {p : HeldPlace} (h : Held s n p) where
   pub low-moves : VertexSize moveLimit (p .low)
