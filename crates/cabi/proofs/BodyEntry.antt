@@ -8,8 +8,8 @@ use Rattle.paper.specs.Operations.{bodyRefusal, bodyPart}
 use Rattle.paper.proofs.Opens.{opens}
 use Rattle.paper.proofs.Bodies.{body-given, given-part}
 use Rattle.paper.proofs.Refusals.{unless-refused, unless-answered}
-use Rattle.bodies.specs.Parts.{PartInside}
-use Rattle.bodies.proofs.EntrySteps.{contents-part}
+use Rattle.contents.specs.Parts.{PartInside}
+use Rattle.contents.proofs.EntrySteps.{contents-part}
 use Rattle.cabi.specs.declared.BodyAnswer.{BodyAnswer}
 use Rattle.cabi.specs.Numbers.{bodyEntry, bodyNumbers}
 

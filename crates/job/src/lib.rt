@@ -1,9 +1,9 @@
 // Open and Body of document 01: a job's bytes tested in the paper's order, and the parts of a job that opens.
 
 use bits::read;
-use bodies::boxes;
-use bodies::contents;
-use bodies::limits;
+use contents::boxes;
+use contents::entries;
+use contents::limits;
 use paper::Opened;
 ghost use mathlib.Core.Path.{_≡_};
 ghost use mathlib.Core.Bool.{true, false};
@@ -12,7 +12,7 @@ ghost use Rattle.paper.specs.Job.{dimension, entryOffset, body, contentsOk, all
 ghost use Rattle.paper.specs.Operations.{opened, polynomialTerms, bodyRefusal, bodyPart};
 ghost use Rattle.paper.specs.Answers.{openedAs};
 ghost use Rattle.bits.specs.Axes.{Axes};
-ghost use Rattle.bodies.specs.Parts.{BeginsAt};
+ghost use Rattle.contents.specs.Parts.{BeginsAt};
 ghost use Rattle.job.specs.BodyTests.{bodiesRefusal};
 ghost use Rattle.job.specs.PartOffset.{partOffset};
 
@@ -23,7 +23,7 @@ fn polynomials_ok(n: usize, job: &[u8]) -> bool
 {
     let mut k = 1;
     while k < n {
-        if !terms::polynomial_ok(n, contents::part_of(job, k)) {
+        if !terms::polynomial_ok(n, entries::part_of(job, k)) {
             return false;
         }
         k += 1;
@@ -36,16 +36,16 @@ fn bodies_refusal(n: usize, job: &[u8]) -> u64
     requires { ⌜ Axes n ⌝ }
     ensures { λ r. ⌜ r ≡ bodiesRefusal n (now (job .entry)) ⌝ }
 {
-    if !contents::contents_ok(n, job) {
+    if !entries::contents_ok(n, job) {
         return 5;
     }
-    if !boxes::box_ok(n, contents::part_of(job, 0)) {
+    if !boxes::box_ok(n, entries::part_of(job, 0)) {
         return 6;
     }
     if !polynomials_ok(n, job) {
         return 7;
     }
-    if !places::place_ok(n, contents::part_of(job, n)) {
+    if !places::place_ok(n, entries::part_of(job, n)) {
         return 8;
     }
     0
@@ -88,7 +88,7 @@ pub fn opened_body(job: &[u8], k: usize) -> &[u8]
     ensures place { λ r. ⌜ BeginsAt (job .entry) (entryOffset (now (job .entry)) k) r ⌝ }
     ensures bytes { λ r. ⌜ now r ≡ body (now (job .entry)) k ⌝ }
 {
-    contents::part_of(job, k)
+    entries::part_of(job, k)
 }
 
 // The count of terms of polynomial k of a job that opens; 0 if it has no such polynomial.

@@ -19,7 +19,7 @@ use Rattle.curves.proofs.IncidenceOf.{place-formed}
 use Rattle.curves.proofs.Finite.{chain-under}
 use Rattle.paper.specs.Bytes.{byte, word, signed, signedWord, wordOf, wordBytes}
 use Rattle.paper.specs.Job.{decodePlace, vertexBytes, encodePlace}
-use Rattle.paper.specs.Short.{short, shortPlace}
+use Rattle.paper.proofs.ShortPlaces.{short, shortPlace}
 use Rattle.paper.proofs.WordBytes.{wordOf-under, signed-wordOf, word-together, wordBytes-signed}
 
 -- ---- lengths

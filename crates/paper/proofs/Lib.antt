@@ -7,6 +7,7 @@ pub mod Refusals
 pub mod Opens
 pub mod Bodies
 pub mod Terms
+pub mod ShortPlaces
 pub mod WordBytes
 pub mod Encode
 pub mod WithStart

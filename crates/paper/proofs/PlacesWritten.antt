@@ -23,7 +23,7 @@ use Rattle.curves.proofs.GridWalk.{grid-walk}
 use Rattle.paper.specs.Job.{dimension, decodePlace, encodePlace}
 use Rattle.paper.specs.Values.{fieldOf}
 use Rattle.paper.specs.Operations.{Answer, refused, answered, stepIn, startOf, traceRefusal, onSameFacet, traced, spaceOf, encodePlaces, bufferAfter}
-use Rattle.paper.specs.Short.{limited}
+use Rattle.paper.proofs.ShortPlaces.{limited}
 use Rattle.paper.specs.Demand3.{readPlaces}
 use Rattle.paper.proofs.Opens.{Opens, opens-range}
 use Rattle.paper.proofs.Encode.{encode-length, encode-bytes, decode-encode}

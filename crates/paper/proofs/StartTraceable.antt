@@ -21,7 +21,7 @@ use Rattle.paper.specs.Limits.{coordinateLimit}
 use Rattle.paper.specs.Job.{dimension, body, boxOk, lowEnd, highEnd, decodePlace, encodePlace, withStart}
 use Rattle.paper.specs.Values.{insideFrom, fieldOf}
 use Rattle.paper.specs.Operations.{answered, facetRefusal, crossedIn, placeBad, facetOf, judgeRefusal, pointRefusal, stepIn, stepped, startOf, traceRefusal, onSameFacet, traced}
-use Rattle.paper.specs.Short.{short, limited, shortPlace}
+use Rattle.paper.proofs.ShortPlaces.{short, limited, shortPlace}
 use Rattle.paper.proofs.Refusals.{not-refused, refuse-later, neither-refused, first-passes, unless-answered}
 use Rattle.paper.proofs.Opens.{Opens, opens}
 use Rattle.paper.proofs.Terms.{box-axis, between-size}

@@ -15,7 +15,7 @@ use Rattle.paper.specs.Bytes.{byte, word}
 use Rattle.paper.specs.Job.{dimension, entryOffset, entryLength, contentsEnd, entriesOk, contentsOk, body, decodePlace, encodePlace, withStart, openRefusal}
 use Rattle.paper.specs.Values.{rawSum, valueOf, readableSum, sums, insideFrom, fieldOf}
 use Rattle.paper.specs.Operations.{startOf}
-use Rattle.paper.specs.Short.{shortPlace}
+use Rattle.paper.proofs.ShortPlaces.{shortPlace}
 use Rattle.paper.proofs.Tests.{all-from}
 use Rattle.paper.proofs.Refusals.{refuse-later}
 use Rattle.paper.proofs.Opens.{Opens, opens-range}

@@ -9,7 +9,7 @@ use lib.IntN.{ℤ, pos, negsuc}
 use lib.Dec.{ltb}
 use borrow.Author.Tests.{ltb-true, ltb-false, lt-ltb, le-ltb}
 use Rattle.paper.specs.Bytes.{signed, wordOf, wordBytes}
-use Rattle.paper.specs.Short.{short}
+use Rattle.paper.proofs.ShortPlaces.{short}
 
 -- what `signed` says on either side of the half
 signed-low : (half u : ℕ) → u < half → signed half u ≡ pos u

@@ -6,8 +6,6 @@ pub mod Job
 pub mod Values
 pub mod Operations
 pub mod Answers
-pub mod Cells
 pub mod Pen
 pub mod Listing
-pub mod Short
 pub mod Demand3

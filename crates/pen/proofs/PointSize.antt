@@ -21,7 +21,7 @@ use Rattle.curves.proofs.GridStep.{Accepted, accepted-traceable}
 use Rattle.curves.proofs.IncidenceOf.{place-formed, place-dimension}
 use Rattle.paper.specs.Limits.{coordinateLimit, stepsPerUnit}
 use Rattle.paper.specs.Job.{dimension, decodePlace}
-use Rattle.paper.specs.Short.{limited}
+use Rattle.paper.proofs.ShortPlaces.{limited}
 use Rattle.paper.specs.Values.{fieldOf, roundSteps, weightSum, overSize, coordinateSteps, pointFrom, pointOf}
 use Rattle.paper.specs.Operations.{facetRefusal, crossedIn, placeBad, facetOf, judgeRefusal, pointRefusal}
 use Rattle.paper.specs.Answers.{padded}

@@ -19,7 +19,7 @@ use Rattle.curves.specs.Step.{every}
 use Rattle.paper.specs.Bytes.{wordBytes}
 use Rattle.paper.specs.Job.{vertexBytes, encodePlace}
 use Rattle.paper.specs.Operations.{encodePlaces}
-use Rattle.paper.specs.Short.{short, shortPlace}
+use Rattle.paper.proofs.ShortPlaces.{short, shortPlace}
 use Rattle.bits.specs.Axes.{Axes}
 use Rattle.bits.proofs.EachDimension.{each-axes}
 use Rattle.places.specs.Held.{vertexAs, masksAs, facetAs, placeAs}

@@ -14,7 +14,7 @@ use Rattle.curves.proofs.GridStep.{accepted}
 use Rattle.paper.specs.Limits.{coordinateLimit}
 use Rattle.paper.specs.Job.{dimension}
 use Rattle.paper.specs.Values.{fieldOf}
-use Rattle.paper.specs.Short.{limited}
+use Rattle.paper.proofs.ShortPlaces.{limited}
 use Rattle.paper.proofs.Opens.{Opens}
 use Rattle.paper.proofs.StartTraceable.{traceable-limited, traceable-short}
 use Rattle.bits.proofs.EachDimension.{dimension-axes}

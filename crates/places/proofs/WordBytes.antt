@@ -14,7 +14,7 @@ use mir.ValLaws.{toZ-ofZ}
 use borrow.Author.Tests.{ltb-true}
 use Rattle.exact.proofs.Bits.{back}
 use Rattle.paper.specs.Bytes.{wordOf, wordBytes}
-use Rattle.paper.specs.Short.{short}
+use Rattle.paper.proofs.ShortPlaces.{short}
 use Rattle.bits.specs.Read.{Reads}
 
 -- ---- a number of 16 bits is the one that 64 bits hold

@@ -9,7 +9,7 @@ use Rattle.exact.specs.Int.{0ℤ}
 use Rattle.curves.specs.Grid.{placeOk}
 use Rattle.paper.specs.Bytes.{byte, signedWord}
 use Rattle.paper.specs.Job.{decodePlace}
-use Rattle.paper.specs.Short.{shortPlace}
+use Rattle.paper.proofs.ShortPlaces.{shortPlace}
 use Rattle.bits.specs.Axes.{Axes}
 use Rattle.places.specs.Held.{placeAs, VertexSize}
 use Rattle.places.specs.declared.HeldPlace.{HeldPlace}

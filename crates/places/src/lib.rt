@@ -12,7 +12,7 @@ ghost use Rattle.exact.specs.Size.{Is};
 ghost use Rattle.curves.specs.Grid.{chain, placeOk, sameVertex, sameMasks};
 ghost use Rattle.curves.specs.Step.{every};
 ghost use Rattle.paper.specs.Bytes.{wordOf, wordBytes};
-ghost use Rattle.paper.specs.Short.{short};
+ghost use Rattle.paper.proofs.ShortPlaces.{short};
 ghost use Rattle.paper.specs.Job.{decodePlace, vertexBytes, encodePlace};
 ghost use Rattle.paper.specs.Operations.{onSameFacet};
 ghost use Rattle.paper.specs.Answers.{placedAs, paddedPlace};

@@ -12,7 +12,7 @@ use Rattle.curves.specs.Grid.{placeOk}
 use Rattle.curves.specs.Step.{every}
 use Rattle.curves.specs.Joined.{Traceable}
 use Rattle.curves.proofs.GridStep.{accepted}
-use Rattle.paper.specs.Short.{short, shortPlace}
+use Rattle.paper.proofs.ShortPlaces.{short, shortPlace}
 use Rattle.paper.specs.Values.{fieldOf}
 use Rattle.paper.proofs.Opens.{opens}
 use Rattle.paper.proofs.StartTraceable.{traceable-short}

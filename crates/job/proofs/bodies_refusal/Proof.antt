@@ -10,7 +10,7 @@ use Rattle.paper.specs.Job.{contentsOk, body, boxOk, decodePlace}
 use Rattle.paper.proofs.Bodies.{contents-box-length, contents-start-length}
 use Rattle.job.specs.BodyTests.{bodiesRefusal, startRefusal}
 use Rattle.paper.proofs.RangeSteps.{test-failed, test-passed}
-use Rattle.bodies.proofs.EntrySteps.{contents-part}
+use Rattle.contents.proofs.EntrySteps.{contents-part}
 use Rattle.job.proofs.OpenSteps.{refuse-contents, refuse-box, refuse-terms, start-decides, refuse-start, start-passes}
 use Rattle.job.proofs.bodies_refusal.Statement.{statement}
 use Rattle.job.proofs.bodies_refusal.Tie as tie

@@ -5,7 +5,7 @@ use borrow.Author.Needs.{needs}
 use denote.Ref.{now}
 use Rattle.paper.specs.Operations.{bodyRefusal}
 use Rattle.paper.proofs.Bodies.{body-given, refused-part, given-part}
-use Rattle.bodies.proofs.EntrySteps.{part-begins}
+use Rattle.contents.proofs.EntrySteps.{part-begins}
 use Rattle.job.proofs.OpenSteps.{refused-offset, given-offset}
 use Rattle.job.proofs.body_part.Statement.{statement}
 use Rattle.job.proofs.body_part.Tie as tie

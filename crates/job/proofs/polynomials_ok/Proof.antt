@@ -4,7 +4,7 @@ use Prim.Native.Nat.{_-_}
 use native.Mathlib.Omega.{arith}
 use Rattle.paper.specs.Job.{allFrom, body, polynomialOk}
 use Rattle.paper.proofs.RangeSteps.{test-failed, test-passed, all-next, all-stops, all-ends}
-use Rattle.bodies.proofs.EntrySteps.{contents-part}
+use Rattle.contents.proofs.EntrySteps.{contents-part}
 use Rattle.job.proofs.polynomials_ok.Statement.{statement}
 use Rattle.job.proofs.polynomials_ok.Tie as tie
 
