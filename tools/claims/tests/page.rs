@@ -20,7 +20,9 @@ fn every_link_leads_to_its_declaration() {
     assert!(listed.len() > 200, "{} links", listed.len());
     let mut names = HashSet::new();
     for entry in &listed {
-        assert!(names.insert(&entry.name), "`{}` is listed twice", entry.name);
+        // Markdown finds a link's name without regard to the case of its letters.
+        let new = names.insert(entry.name.to_lowercase());
+        assert!(new, "`{}` is listed twice", entry.name);
         let line = right_line(entry).unwrap_or_else(|why| panic!("{why}"));
         assert_eq!(
             entry.line, line,
@@ -115,4 +117,23 @@ fn every_document_link_leads_somewhere() {
             assert!(file.exists(), "{document}: {target}");
         }
     }
+}
+
+/// README gives the number of lines of each file that a reader must believe, and their sum.
+#[test]
+fn readme_counts_the_lines() {
+    let text = fs::read_to_string(root().join("README.md")).expect("README.md");
+    let mut sum = 0;
+    let mut files = 0;
+    for part in text.split("](").skip(1) {
+        let Some((target, rest)) = part.split_once(") (") else { continue };
+        let Some(Ok(stated)) = rest.split(')').next().map(str::parse::<usize>) else { continue };
+        let file = fs::read_to_string(root().join(target)).expect("a file that README names");
+        assert_eq!(file.lines().count(), stated, "{target}");
+        sum += stated;
+        files += 1;
+    }
+    assert!(files > 20, "{files} files");
+    let thousands = format!("({},{:03} lines in all", sum / 1000, sum % 1000);
+    assert!(text.contains(&thousands), "the files have {sum} lines in all");
 }

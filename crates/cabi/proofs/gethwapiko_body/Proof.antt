@@ -1,4 +1,4 @@
--- `gethwapiko_body` meets its contract: the entry of a body that is not refused lies inside the job.
+-- `cabi::gethwapiko_body` meets its contract: the entry of a body that is not refused lies inside the job.
 use mathlib.Core.Path.{sym, _∙_}
 use native.Mathlib.Omega.{arith}
 use Rattle.paper.specs.Job.{entryOffset, entryLength}

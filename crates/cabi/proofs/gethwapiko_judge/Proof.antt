@@ -1,4 +1,4 @@
--- `gethwapiko_judge` meets its contract: what Judge answers, by its constructor.
+-- `cabi::gethwapiko_judge` meets its contract: what Judge answers, by its constructor.
 use mathlib.Core.Path.{sym, ap, _∙_}
 use Rattle.paper.specs.Answers.{judgedAs}
 use Rattle.cabi.specs.Numbers.{judgeNumbers}

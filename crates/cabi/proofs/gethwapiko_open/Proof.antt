@@ -1,4 +1,4 @@
--- `gethwapiko_open` meets its contract: what Open answers, by its constructor.
+-- `cabi::gethwapiko_open` meets its contract: what Open answers, by its constructor.
 use mathlib.Core.Path.{sym, ap, _∙_}
 use Rattle.paper.specs.Answers.{openedAs}
 use Rattle.cabi.specs.Numbers.{openNumbers}

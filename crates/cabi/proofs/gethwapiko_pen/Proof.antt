@@ -1,4 +1,4 @@
--- `gethwapiko_pen` meets its contract: what Pen answers, by its constructor and its move.
+-- `cabi::gethwapiko_pen` meets its contract: what Pen answers, by its constructor and its move.
 use mathlib.Core.Path.{sym, ap, _∙_}
 use Rattle.paper.specs.Pen.{millimetresAs, moveAs, pennedAs}
 use Rattle.cabi.specs.Numbers.{isSet, withPoint, penNumbers}

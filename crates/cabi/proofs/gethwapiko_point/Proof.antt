@@ -1,4 +1,4 @@
--- `gethwapiko_point` meets its contract: what Point answers, by its constructor.
+-- `cabi::gethwapiko_point` meets its contract: what Point answers, by its constructor.
 use mathlib.Core.Path.{sym, ap, _∙_}
 use mir.Syntax.{w64}
 use mir.ValLaws.{toZ-ofZ}

@@ -1,4 +1,4 @@
--- `gethwapiko_step` meets its contract: what Step answers, by its constructor.
+-- `cabi::gethwapiko_step` meets its contract: what Step answers, by its constructor.
 use mathlib.Core.Path.{sym, ap, _∙_}
 use mir.Syntax.{w64}
 use mir.ValLaws.{toZ-ofZ}

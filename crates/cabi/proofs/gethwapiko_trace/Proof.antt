@@ -1,4 +1,4 @@
--- `gethwapiko_trace` meets its contract: what Trace answers, by its constructor, and the buffer as Trace left it.
+-- `cabi::gethwapiko_trace` meets its contract: what Trace answers, by its constructor, and the buffer as Trace left it.
 use mathlib.Core.Path.{sym, ap, _∙_}
 use Rattle.paper.specs.Answers.{tracedAs}
 use Rattle.cabi.specs.Numbers.{traceNumbers}

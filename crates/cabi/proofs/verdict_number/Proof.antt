@@ -1,4 +1,4 @@
--- `verdict_number` meets its contract: each constructor has its number.
+-- `cabi::verdict_number` meets its contract: each constructor has its number.
 use mathlib.Core.Path.{sym, ap}
 use Rattle.paper.specs.declared.Verdict.{Verdict}
 use Rattle.paper.specs.Answers.{verdictAs}

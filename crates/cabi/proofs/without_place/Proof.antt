@@ -1,4 +1,4 @@
--- `without_place` meets its contract.
+-- `cabi::without_place` meets its contract.
 use mathlib.Core.Path.{refl}
 use Rattle.cabi.specs.Numbers.{withoutPlace}
 use Rattle.cabi.proofs.without_place.Statement.{statement}

@@ -1,4 +1,4 @@
--- `without_point` meets its contract.
+-- `cabi::without_point` meets its contract.
 use mathlib.Core.Path.{refl}
 use Rattle.cabi.specs.Numbers.{withoutPoint}
 use Rattle.cabi.proofs.without_point.Statement.{statement}

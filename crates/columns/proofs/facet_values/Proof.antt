@@ -1,4 +1,4 @@
--- `facet_values` meets its contract: the facet's vertices are the lowest and its shifts by the masks.
+-- `columns::facet_values` meets its contract: the facet's vertices are the lowest and its shifts by the masks.
 use native.Mathlib.Omega.{arith}
 use Rattle.places.specs.Held.{facetAs}
 use Rattle.columns.proofs.OpenedJob.{job-axes}

@@ -1,4 +1,4 @@
--- `simplex_values` meets its contract: the vertices are the corner and its shifts by the masks.
+-- `columns::simplex_values` meets its contract: the vertices are the corner and its shifts by the masks.
 use native.Mathlib.Omega.{arith}
 use Rattle.columns.proofs.OpenedJob.{job-axes}
 use Rattle.columns.proofs.FacetColumns.{simplex-list, simplex-found}

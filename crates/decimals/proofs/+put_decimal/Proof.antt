@@ -1,4 +1,4 @@
--- `put_decimal` meets its contract, as the one member of its cycle of calls. The measure is the number: a tenth of it is less. What is
+-- `decimals::put_decimal` meets its contract, as the one member of its cycle of calls. The measure is the number: a tenth of it is less. What is
 -- written is the text of the tenth and the last digit.
 use mathlib.Core.Path.{sym, ap, _∙_}
 use mathlib.Core.List.{[], _∷_, _++_}

@@ -1,4 +1,4 @@
--- `put_byte` meets its contract: a store writes one byte.
+-- `decimals::put_byte` meets its contract: a store writes one byte.
 use borrow.Author.Needs.{needs}
 use Rattle.decimals.proofs.WrittenParts.{writes-byte}
 use Rattle.decimals.proofs.put_byte.Statement.{statement}

@@ -1,4 +1,4 @@
--- `put_signed` meets its contract: the sign decides whether a minus stands in front of the size.
+-- `decimals::put_signed` meets its contract: the sign decides whether a minus stands in front of the size.
 use native.Mathlib.Omega.{arith}
 use Rattle.decimals.proofs.WrittenParts.{writes-then, writes-as}
 use Rattle.decimals.proofs.SignedText.{text-under, text-from}

@@ -1,4 +1,4 @@
--- `put_word` meets its contract. The loop's invariant: the first j bytes of the word stand from `at` on, and o is behind them. The
+-- `decimals::put_word` meets its contract. The loop's invariant: the first j bytes of the word stand from `at` on, and o is behind them. The
 -- measure is what is left of the word.
 use mathlib.Core.Path.{_≡_, sym, ap, _∙_}
 use mathlib.Core.List.{_∷_, [], _++_}

@@ -1,4 +1,4 @@
--- `bodies_refusal` meets its contract: each return is the refusal of the first test that failed.
+-- `job::bodies_refusal` meets its contract: each return is the refusal of the first test that failed.
 use mathlib.Core.Path.{_≡_, sym, ap, _∙_}
 use mathlib.Core.Bool.{Bool, true}
 use mathlib.Core.List.{List}

@@ -1,4 +1,4 @@
--- `body_part` meets its contract.
+-- `job::body_part` meets its contract.
 use mathlib.Core.Path.{_≡_, refl, sym, _∙_}
 use native.Mathlib.Omega.{arith}
 use borrow.Author.Needs.{needs}

@@ -1,4 +1,4 @@
--- `body_refusal` meets its contract.
+-- `job::body_refusal` meets its contract.
 use mathlib.Core.Path.{sym, _∙_}
 use native.Mathlib.Omega.{arith}
 use borrow.Author.Needs.{needs}

@@ -1,4 +1,4 @@
--- `open` meets its contract.
+-- `job::open` meets its contract.
 use mathlib.Core.Path.{sym, _∙_}
 use borrow.Author.Needs.{needs}
 use Rattle.paper.specs.Answers.{openedAs}

@@ -1,4 +1,4 @@
--- `open_refusal` meets its contract: each return is the refusal of the first test that failed.
+-- `job::open_refusal` meets its contract: each return is the refusal of the first test that failed.
 use mathlib.Core.Path.{_≡_, sym, _∙_}
 use mathlib.Core.Bool.{true}
 use borrow.Author.Needs.{needs}

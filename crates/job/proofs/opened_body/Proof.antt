@@ -1,4 +1,4 @@
--- `opened_body` meets its contract: the contents of a job that opens place each body inside it.
+-- `job::opened_body` meets its contract: the contents of a job that opens place each body inside it.
 use borrow.Author.Needs.{needs}
 use Rattle.paper.proofs.Opens.{opens}
 use Rattle.contents.proofs.EntrySteps.{contents-part}

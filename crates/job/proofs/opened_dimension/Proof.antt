@@ -1,4 +1,4 @@
--- `opened_dimension` meets its contract: a job that opens has 4 bytes.
+-- `job::opened_dimension` meets its contract: a job that opens has 4 bytes.
 use native.Mathlib.Omega.{arith}
 use Rattle.paper.specs.Job.{dimension}
 use Rattle.paper.proofs.Opens.{opens}

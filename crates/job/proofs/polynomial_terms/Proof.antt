@@ -1,4 +1,4 @@
--- `polynomial_terms` meets its contract.
+-- `job::polynomial_terms` meets its contract.
 use mathlib.Core.Path.{ap}
 use mathlib.Core.List.{List}
 use Prim.Native.Nat.{ℕ, _/_, _<_, _≤_}

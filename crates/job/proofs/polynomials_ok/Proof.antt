@@ -1,4 +1,4 @@
--- `polynomials_ok` meets its contract. The invariant: the test of all polynomials is the test of those that are left.
+-- `job::polynomials_ok` meets its contract. The invariant: the test of all polynomials is the test of those that are left.
 use mathlib.Core.Path.{_≡_, refl, ap, _∙_}
 use Prim.Native.Nat.{_-_}
 use native.Mathlib.Omega.{arith}

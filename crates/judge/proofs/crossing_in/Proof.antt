@@ -1,4 +1,4 @@
--- `crossing_in` meets its contract: what `place_in` refuses, then 11, then the place.
+-- `judge::crossing_in` meets its contract: what `place_in` refuses, then 11, then the place.
 use borrow.Author.Needs.{needs}
 use mathlib.Core.Path.{sym, _∙_}
 use borrow.Author.Tests.{not-true, not-false}

@@ -1,4 +1,4 @@
--- `judge` meets its contract: Open's refusal, the place's, or crossed or not.
+-- `judge::judge` meets its contract: Open's refusal, the place's, or crossed or not.
 use borrow.Author.Needs.{needs}
 use mathlib.Core.Path.{sym, _∙_}
 use mathlib.Core.Bool.{true, false}

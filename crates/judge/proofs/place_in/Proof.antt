@@ -1,4 +1,4 @@
--- `place_in` meets its contract: 13 at each of the two tests of the place's form, then what its facet's values say.
+-- `judge::place_in` meets its contract: 13 at each of the two tests of the place's form, then what its facet's values say.
 use borrow.Author.Needs.{needs}
 use lib.Dec.{lit≤}
 use mathlib.Core.Path.{sym, _∙_}

@@ -1,4 +1,4 @@
--- `point` meets its contract: what the place says, or Open's refusal.
+-- `judge::point` meets its contract: what the place says, or Open's refusal.
 use borrow.Author.Needs.{needs}
 use Rattle.paper.specs.Answers.{pointedAs}
 use Rattle.judge.proofs.PointAnswers.{point-unopened}

@@ -1,4 +1,4 @@
--- `point_in` meets its contract: the place's refusal, or its point.
+-- `judge::point_in` meets its contract: the place's refusal, or its point.
 use Rattle.paper.specs.Answers.{pointedAs}
 use Rattle.columns.proofs.OpenedJob.{job-axes}
 use Rattle.columns.proofs.FacetColumns.{zero-cells}

@@ -1,4 +1,4 @@
--- `refused` meets its contract.
+-- `judge::refused` meets its contract.
 use mathlib.Core.Path.{refl}
 use Rattle.judge.specs.Located.{refusedPlace}
 use Rattle.judge.proofs.refused.Statement.{statement}

@@ -1,4 +1,4 @@
--- `job_space` meets its contract: so many zeros are the room for the longest job and one byte more.
+-- `listing::job_space` meets its contract: so many zeros are the room for the longest job and one byte more.
 use mathlib.Core.Path.{_∙_}
 use Rattle.listing.proofs.RoomSizes.{job-room, zeros-long}
 use Rattle.listing.proofs.job_space.Statement.{statement}

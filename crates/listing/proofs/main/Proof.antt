@@ -1,4 +1,4 @@
--- `main` meets its contract: the parts lent and written lie within their arrays.
+-- `listing::main` meets its contract: the parts lent and written lie within their arrays.
 use mathlib.Core.Path.{sym}
 use lib.Seq.{length-take-le}
 use borrow.Author.Needs.{needs}

@@ -1,4 +1,4 @@
--- `place_space` meets its contract: so many zeros are the room for the places.
+-- `listing::place_space` meets its contract: so many zeros are the room for the places.
 use mathlib.Core.Path.{_∙_}
 use Rattle.listing.proofs.RoomSizes.{places-room, zeros-long}
 use Rattle.listing.proofs.place_space.Statement.{statement}

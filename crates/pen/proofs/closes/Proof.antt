@@ -1,4 +1,4 @@
--- `closes` meets its contract, test by test.
+-- `pen::closes` meets its contract, test by test.
 use native.Mathlib.Omega.{arith}
 use borrow.Author.Tests.{eq-eqb, ne-eqb, lt-ltb, le-ltb}
 use Rattle.pen.specs.Moves.{closesAt}

@@ -1,4 +1,4 @@
--- `millimetre` meets its contract: the cast loses nothing, and the quotient is not rounded.
+-- `pen::millimetre` meets its contract: the cast loses nothing, and the quotient is not rounded.
 use mathlib.Core.Path.{_≡_, refl, sym, _∙_, subst}
 use lib.Count.{trailingZeros}
 use lib.Dec.{T}

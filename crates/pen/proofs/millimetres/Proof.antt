@@ -1,4 +1,4 @@
--- `millimetres` meets its contract, coordinate by coordinate.
+-- `pen::millimetres` meets its contract, coordinate by coordinate.
 use mathlib.Core.Path.{ap, _∙_}
 use mathlib.Core.List.{[], _∷_}
 use borrow.Author.Needs.{needs}

@@ -1,4 +1,4 @@
--- `move_to` meets its contract: what Point answers is taken apart by its constructor, and its point's coordinates are small enough to cast.
+-- `pen::move_to` meets its contract: what Point answers is taken apart by its constructor, and its point's coordinates are small enough to cast.
 use mathlib.Core.Path.{sym, ap, _∙_}
 use borrow.Author.Needs.{needs}
 use Rattle.paper.specs.Answers.{pointedAs}

@@ -1,4 +1,4 @@
--- `pen` meets its contract: each return is the law of its name in PenAnswers, and place k lies within the list.
+-- `pen::pen` meets its contract: each return is the law of its name in PenAnswers, and place k lies within the list.
 use Prim.Native.Nat.{_*_}
 use mathlib.Core.Path.{refl, sym, _∙_}
 use native.Mathlib.Omega.{arith}

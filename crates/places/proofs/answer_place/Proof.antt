@@ -1,4 +1,4 @@
--- `answer_place` meets its contract.
+-- `places::answer_place` meets its contract.
 use Rattle.places.proofs.PlaceAnswered.{two-answered, more-answered}
 use Rattle.places.proofs.answer_place.Statement.{statement}
 use Rattle.places.proofs.answer_place.Tie as tie

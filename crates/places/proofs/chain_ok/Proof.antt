@@ -1,4 +1,4 @@
--- `chain_ok` meets its contract. The invariant: the test of the whole chain is the test of the masks that are left, behind the mask `before`.
+-- `places::chain_ok` meets its contract. The invariant: the test of the whole chain is the test of the masks that are left, behind the mask `before`.
 use mathlib.Core.Path.{_≡_, ap}
 use mathlib.Core.Bool.{true}
 use Prim.Native.Nat.{_*_, _-_, _^_, _<_}

@@ -1,4 +1,4 @@
--- `coordinate` meets its contract.
+-- `places::coordinate` meets its contract.
 use lib.Dec.{lit≤}
 use Rattle.exact.proofs.Bits.{holds-call}
 use Rattle.places.proofs.PlaceReading.{coordinate-counts, coordinate-absent}

@@ -1,4 +1,4 @@
--- `mask` meets its contract.
+-- `places::mask` meets its contract.
 use Rattle.places.proofs.PlaceReading.{mask-counts, mask-absent}
 use borrow.Author.Needs.{needs}
 use Rattle.places.proofs.mask.Statement.{statement}

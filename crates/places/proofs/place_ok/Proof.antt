@@ -1,4 +1,4 @@
--- `place_ok` meets its contract: chain and side decide (`place-is`).
+-- `places::place_ok` meets its contract: chain and side decide (`place-is`).
 use mathlib.Core.Path.{_≡_}
 use mathlib.Core.Bool.{_&&_}
 use Prim.Native.Nat.{_*_, _-_}

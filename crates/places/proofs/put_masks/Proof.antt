@@ -1,4 +1,4 @@
--- `put_masks` meets its contract: each mask behind the one before.
+-- `places::put_masks` meets its contract: each mask behind the one before.
 use native.Mathlib.Omega.{arith}
 use Rattle.places.proofs.PlaceStored.{mask-small, one-mask, two-masks, three-masks}
 use borrow.Author.Needs.{needs}

@@ -1,4 +1,4 @@
--- `put_vertex` meets its contract: each coordinate behind the one before.
+-- `places::put_vertex` meets its contract: each coordinate behind the one before.
 use native.Mathlib.Omega.{arith}
 use Rattle.places.proofs.WordBytes.{back-short}
 use Rattle.places.proofs.PlaceStored.{coordinate-short, two-written, three-written, four-written}

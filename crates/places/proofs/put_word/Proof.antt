@@ -1,4 +1,4 @@
--- `put_word` meets its contract: the low byte, then the high one.
+-- `places::put_word` meets its contract: the low byte, then the high one.
 use native.Mathlib.Omega.{arith}
 use lib.ListN.{length-set}
 use Rattle.places.proofs.WordBytes.{back-short, word-stored}

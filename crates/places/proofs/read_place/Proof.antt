@@ -1,4 +1,4 @@
--- `read_place` meets its contract: the numbers read are those of the place.
+-- `places::read_place` meets its contract: the numbers read are those of the place.
 use lib.Dec.{lit≤}
 use Rattle.exact.proofs.Bits.{holds-call}
 use Rattle.places.proofs.PlaceReading.{place-read}

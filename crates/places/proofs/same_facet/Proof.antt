@@ -1,4 +1,4 @@
--- `same_facet` meets its contract: the lowest vertices, then the masks.
+-- `places::same_facet` meets its contract: the lowest vertices, then the masks.
 use mathlib.Core.Path.{_∙_}
 use Rattle.paper.proofs.RangeSteps.{test-failed, test-passed}
 use Rattle.places.proofs.SameNumbers.{vertex-decides, masks-decide}

@@ -1,4 +1,4 @@
--- `same_masks` meets its contract: the first mask that differs says no, and none says yes.
+-- `places::same_masks` meets its contract: the first mask that differs says no, and none says yes.
 use native.Mathlib.Omega.{arith}
 use Rattle.places.proofs.SameNumbers.{mask-differs, two-agree, three-agree, last-mask}
 use Rattle.places.proofs.same_masks.Statement.{statement}

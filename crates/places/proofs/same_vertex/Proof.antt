@@ -1,4 +1,4 @@
--- `same_vertex` meets its contract: the first coordinate that differs says no, and none says yes.
+-- `places::same_vertex` meets its contract: the first coordinate that differs says no, and none says yes.
 use mathlib.Core.Path.{ap}
 use native.Mathlib.Omega.{arith}
 use mir.Syntax.{w64}

@@ -1,4 +1,4 @@
--- `word_of` meets its contract: under 0 what is missing to 65,536, from 0 on the number itself.
+-- `places::word_of` meets its contract: under 0 what is missing to 65,536, from 0 on the number itself.
 use native.Mathlib.Omega.{arith}
 use borrow.Author.Needs.{needs}
 use Rattle.places.proofs.WordBytes.{word-size, word-below, word-above}

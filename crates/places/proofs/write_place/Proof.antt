@@ -1,4 +1,4 @@
--- `write_place` meets its contract: coordinates, masks and side, each behind the one before.
+-- `places::write_place` meets its contract: coordinates, masks and side, each behind the one before.
 use native.Mathlib.Omega.{arith}
 use mathlib.Core.Path.{refl}
 use Rattle.places.proofs.PlaceStored.{fits-low, fits-masks, fits-side, place-stored}

@@ -1,4 +1,4 @@
--- `step` meets its contract: refused as Open refuses, or the step of a job that has opened.
+-- `step::step` meets its contract: refused as Open refuses, or the step of a job that has opened.
 use borrow.Author.Needs.{needs}
 use Rattle.paper.specs.Answers.{steppedAs}
 use Rattle.step.proofs.StepAnswers.{step-unopened}

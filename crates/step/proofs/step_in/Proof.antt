@@ -1,4 +1,4 @@
--- `step_in` meets its contract: refused as Point refuses, or the job's step.
+-- `step::step_in` meets its contract: refused as Point refuses, or the job's step.
 use borrow.Author.Needs.{needs}
 use mathlib.Core.Path.{subst}
 use Rattle.paper.specs.Answers.{steppedAs, paddedNext}

@@ -1,4 +1,4 @@
--- `put_first` meets its contract: n, a blank, the verdict, a blank, the count, the line's end.
+-- `text::put_first` meets its contract: n, a blank, the verdict, a blank, the count, the line's end.
 use mathlib.Core.Path.{refl}
 use native.Mathlib.Omega.{arith}
 use Rattle.paper.specs.Listing.{firstLine}

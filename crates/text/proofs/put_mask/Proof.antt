@@ -1,4 +1,4 @@
--- `put_mask` meets its contract: a blank, then the number.
+-- `text::put_mask` meets its contract: a blank, then the number.
 use native.Mathlib.Omega.{arith}
 use Rattle.decimals.proofs.WrittenParts.{writes-then, writes-as}
 use Rattle.text.proofs.LineParts.{blank-mask}

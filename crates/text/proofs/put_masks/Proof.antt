@@ -1,4 +1,4 @@
--- `put_masks` meets its contract: one mask behind another.
+-- `text::put_masks` meets its contract: one mask behind another.
 use mathlib.Core.Path.{refl}
 use native.Mathlib.Omega.{arith}
 use lib.IntN.{pos}

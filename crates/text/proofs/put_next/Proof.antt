@@ -1,4 +1,4 @@
--- `put_next` meets its contract: a blank, then the number.
+-- `text::put_next` meets its contract: a blank, then the number.
 use mathlib.Core.Path.{ap, _∙_}
 use mathlib.Core.List.{_∷_}
 use native.Mathlib.Omega.{arith}

@@ -1,4 +1,4 @@
--- `put_numbers` meets its contract: one number behind another.
+-- `text::put_numbers` meets its contract: one number behind another.
 use native.Mathlib.Omega.{arith}
 use Rattle.bits.proofs.SignedBits.{bits-are}
 use Rattle.decimals.proofs.WrittenParts.{writes-then, writes-as}

@@ -1,4 +1,4 @@
--- `put_place` meets its contract: the parts of a place's line, one behind the other.
+-- `text::put_place` meets its contract: the parts of a place's line, one behind the other.
 use native.Mathlib.Omega.{arith}
 use Rattle.text.proofs.LineParts.{place-written}
 use borrow.Author.Needs.{needs}

@@ -1,4 +1,4 @@
--- `put_refused` meets its contract: the word, a blank, the number, the line's end.
+-- `text::put_refused` meets its contract: the word, a blank, the number, the line's end.
 use mathlib.Core.Path.{refl}
 use native.Mathlib.Omega.{arith}
 use Rattle.paper.specs.Listing.{refusedLine}

@@ -1,4 +1,4 @@
--- `put_verdict` meets its contract: each verdict's word.
+-- `text::put_verdict` meets its contract: each verdict's word.
 use mathlib.Core.Path.{sym, ap}
 use native.Mathlib.Omega.{arith}
 use Rattle.paper.specs.Listing.{verdictWord}

@@ -1,4 +1,4 @@
--- `trace` meets its contract: refused as Open refuses, or the trace of a job that has opened.
+-- `trace::trace` meets its contract: refused as Open refuses, or the trace of a job that has opened.
 use borrow.Author.Needs.{needs}
 use Rattle.trace.proofs.TraceAnswers.{not-opened}
 use Rattle.trace.proofs.trace.Statement.{statement}

@@ -1,4 +1,4 @@
--- `trace_in` meets its contract: refused as the paper's chain says, or the walk from the job's start.
+-- `trace::trace_in` meets its contract: refused as the paper's chain says, or the walk from the job's start.
 use borrow.Author.Needs.{needs}
 use Rattle.columns.proofs.OpenedJob.{job-axes}
 use Rattle.columns.proofs.FacetColumns.{zero-cells}

@@ -1,4 +1,4 @@
--- `masks::axis_of` meets its contract: the trailing zeros are the lowest axis (`lowest-axis`).
+-- `bits::masks::axis_of` meets its contract: the trailing zeros are the lowest axis (`lowest-axis`).
 use native.Mathlib.Omega.{arith}
 use lib.Count.{trailing-le}
 use Rattle.curves.specs.Grid.{axes}

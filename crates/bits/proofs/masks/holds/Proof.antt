@@ -1,4 +1,4 @@
--- `masks::holds` meets its contract: a mask holds another if `&` leaves the other whole (`holds-and`).
+-- `bits::masks::holds` meets its contract: a mask holds another if `&` leaves the other whole (`holds-and`).
 use Rattle.bits.proofs.MaskBits.{holds-and}
 use Rattle.bits.proofs.masks.holds.Statement.{statement}
 use Rattle.bits.proofs.masks.holds.Tie as tie

@@ -1,4 +1,4 @@
--- `masks::is_flat` meets its contract. A number of 64 bits has at most 64 ones, so one more than their count fits.
+-- `bits::masks::is_flat` meets its contract. A number of 64 bits has at most 64 ones, so one more than their count fits.
 use native.Mathlib.Omega.{arith}
 use native.Mathlib.Numerals.{add-one}
 use lib.Count.{ones-le}

@@ -1,4 +1,4 @@
--- `read::byte` meets its contract.
+-- `bits::read::byte` meets its contract.
 use borrow.Author.Needs.{needs}
 use Rattle.paper.specs.Bytes.{byte}
 use Rattle.bits.proofs.read.byte.Statement.{statement}

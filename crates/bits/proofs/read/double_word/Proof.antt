@@ -1,4 +1,4 @@
--- `read::double_word` meets its contract.
+-- `bits::read::double_word` meets its contract.
 use borrow.Author.Needs.{needs}
 use Rattle.paper.specs.Bytes.{doubleWord}
 use Rattle.bits.proofs.read.double_word.Statement.{statement}

@@ -1,4 +1,4 @@
--- `read::signed` meets its contract: the exclusive or with half, less half, is the signed number (`signed-flip`).
+-- `bits::read::signed` meets its contract: the exclusive or with half, less half, is the signed number (`signed-flip`).
 use borrow.Author.Needs.{needs}
 use Rattle.bits.proofs.SignedBits.{flip-fits, signed-fits, signed-is}
 use Rattle.bits.proofs.read.signed.Statement.{statement}

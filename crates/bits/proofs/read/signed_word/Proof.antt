@@ -1,4 +1,4 @@
--- `read::signed_word` meets its contract.
+-- `bits::read::signed_word` meets its contract.
 use mathlib.Core.Path.{refl}
 use native.Mathlib.Omega.{arith}
 use borrow.Author.Needs.{needs}

@@ -1,4 +1,4 @@
--- `read::size` meets its contract: − 1 less a number under 0 and 1 more, and any other number itself, is its absolute value.
+-- `bits::read::size` meets its contract: − 1 less a number under 0 and 1 more, and any other number itself, is its absolute value.
 use borrow.Author.Needs.{needs}
 use Rattle.bits.proofs.SignedBits.{complement-fits, complement-casts, size-under, size-casts, size-room}
 use Rattle.bits.proofs.read.size.Statement.{statement}

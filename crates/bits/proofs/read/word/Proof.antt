@@ -1,4 +1,4 @@
--- `read::word` meets its contract.
+-- `bits::read::word` meets its contract.
 use borrow.Author.Needs.{needs}
 use Rattle.paper.specs.Bytes.{word}
 use Rattle.bits.proofs.read.word.Statement.{statement}

@@ -1,4 +1,4 @@
--- `field::put_value` meets its contract: body k is the polynomial.
+-- `columns::field::put_value` meets its contract: body k is the polynomial.
 use native.Mathlib.Omega.{arith}
 use borrow.Author.Needs.{needs}
 use borrow.Author.Tests.{not-true, not-false}

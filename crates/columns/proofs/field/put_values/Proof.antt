@@ -1,4 +1,4 @@
--- `field::put_values` meets its contract. The loop's invariant: the values under j are in, and every cell is within the limit.
+-- `columns::field::put_values` meets its contract. The loop's invariant: the values under j are in, and every cell is within the limit.
 use Prim.Native.Nat.{_+_, _≤_, _-_}
 use native.Mathlib.Omega.{arith}
 use borrow.Author.Tests.{not-true, not-false}

@@ -1,4 +1,4 @@
--- `field::vertex_inside` meets its contract: the box is body 0.
+-- `columns::field::vertex_inside` meets its contract: the box is body 0.
 use mathlib.Core.Path.{ap, _∙_}
 use mathlib.Core.List.{List}
 use Prim.Native.Nat.{ℕ}

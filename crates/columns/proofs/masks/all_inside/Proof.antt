@@ -1,4 +1,4 @@
--- `masks::all_inside` meets its contract. The loop's invariant: the vertices under k lie in the box.
+-- `columns::masks::all_inside` meets its contract. The loop's invariant: the vertices under k lie in the box.
 use mathlib.Core.Path.{_≡_, sym, ap, _∙_}
 use mathlib.Core.Bool.{true}
 use Prim.Native.Nat.{ℕ, _≤_, _<_, _-_}

@@ -1,4 +1,4 @@
--- `masks::mask_at` meets its contract, index by index.
+-- `columns::masks::mask_at` meets its contract, index by index.
 use native.Mathlib.Omega.{arith}
 use Rattle.columns.proofs.FacetColumns.{mask-last}
 use Rattle.columns.specs.Vertices.{maskAt}

@@ -1,4 +1,4 @@
--- `masks::put_columns` meets its contract. The loop's invariant: the columns under k are in, and every cell is within the limit.
+-- `columns::masks::put_columns` meets its contract. The loop's invariant: the columns under k are in, and every cell is within the limit.
 use mathlib.Core.Path.{ap, _∙_}
 use Prim.Native.Nat.{_≤_, _-_}
 use native.Mathlib.Omega.{arith}

@@ -1,4 +1,4 @@
--- `masks::values_at` meets its contract: the box first, then the columns.
+-- `columns::masks::values_at` meets its contract: the box first, then the columns.
 use mathlib.Core.Path.{sym, _∙_}
 use borrow.Author.Tests.{not-true, not-false}
 use Rattle.columns.proofs.PutColumns.{found-edge, found-limit, found-all}

@@ -1,4 +1,4 @@
--- `masks::vertex_at` meets its contract: the shift by the mask.
+-- `columns::masks::vertex_at` meets its contract: the shift by the mask.
 use mathlib.Core.Path.{ap, _∙_}
 use Rattle.curves.specs.Grid.{plus}
 use Rattle.places.specs.Held.{vertexAs}

@@ -1,4 +1,4 @@
--- `boxes::axis_ok` meets its contract: the three tests in the order of the definition.
+-- `contents::boxes::axis_ok` meets its contract: the three tests in the order of the definition.
 use mathlib.Core.Path.{_≡_}
 use mathlib.Core.Bool.{_&&_}
 use lib.Dec.{lit≤}

@@ -1,4 +1,4 @@
--- `boxes::box_ok` meets its contract. The invariant: the test of the whole box is the test of the axes that are left.
+-- `contents::boxes::box_ok` meets its contract. The invariant: the test of the whole box is the test of the axes that are left.
 use mathlib.Core.Path.{_≡_, ap}
 use Prim.Native.Nat.{_-_}
 use native.Mathlib.Omega.{arith}

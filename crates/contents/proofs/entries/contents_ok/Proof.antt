@@ -1,4 +1,4 @@
--- `contents::contents_ok` meets its contract.
+-- `contents::entries::contents_ok` meets its contract.
 use borrow.Author.Needs.{needs}
 use borrow.Author.Tests.{le-leb, lt-leb}
 use Rattle.paper.specs.Job.{contentsEnd, contentsOk}

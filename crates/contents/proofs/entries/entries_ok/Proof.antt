@@ -1,4 +1,4 @@
--- `contents::entries_ok` meets its contract. The invariant: the test of all entries is the test of those that are left, begun at `at`.
+-- `contents::entries::entries_ok` meets its contract. The invariant: the test of all entries is the test of those that are left, begun at `at`.
 use mathlib.Core.Path.{_≡_, sym, ap, _∙_}
 use Prim.Native.Nat.{ℕ, _+_, _*_, _-_, _≤_}
 use native.Mathlib.Omega.{arith}

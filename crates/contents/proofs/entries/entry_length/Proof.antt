@@ -1,4 +1,4 @@
--- `contents::entry_length` meets its contract.
+-- `contents::entries::entry_length` meets its contract.
 use borrow.Author.Needs.{needs}
 use Rattle.paper.specs.Job.{entryLength}
 use Rattle.contents.proofs.entries.entry_length.Statement.{statement}

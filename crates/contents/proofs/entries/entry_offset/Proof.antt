@@ -1,4 +1,4 @@
--- `contents::entry_offset` meets its contract.
+-- `contents::entries::entry_offset` meets its contract.
 use borrow.Author.Needs.{needs}
 use Rattle.paper.specs.Job.{entryOffset}
 use Rattle.contents.proofs.entries.entry_offset.Statement.{statement}

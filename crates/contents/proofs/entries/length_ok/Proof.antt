@@ -1,4 +1,4 @@
--- `contents::length_ok` meets its contract.
+-- `contents::entries::length_ok` meets its contract.
 use borrow.Author.Needs.{needs}
 use borrow.Author.Tests.{eq-eqb, ne-eqb}
 use Rattle.paper.specs.Job.{lengthOk}

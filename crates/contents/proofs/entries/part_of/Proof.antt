@@ -1,4 +1,4 @@
--- `contents::part_of` meets its contract.
+-- `contents::entries::part_of` meets its contract.
 use mathlib.Core.Path.{refl}
 use borrow.Author.Needs.{needs}
 use Rattle.contents.proofs.EntrySteps.{part-begins, part-is}

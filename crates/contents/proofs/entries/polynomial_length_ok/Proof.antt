@@ -1,4 +1,4 @@
--- `contents::polynomial_length_ok` meets its contract.
+-- `contents::entries::polynomial_length_ok` meets its contract.
 use native.Mathlib.Omega.{arith}
 use borrow.Author.Needs.{needs}
 use borrow.Author.Tests.{eq-eqb, ne-eqb, le-leb, lt-leb}

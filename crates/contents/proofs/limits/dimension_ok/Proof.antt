@@ -1,4 +1,4 @@
--- `limits::dimension_ok` meets its contract.
+-- `contents::limits::dimension_ok` meets its contract.
 use borrow.Author.Tests.{eq-eqb, ne-eqb}
 use Rattle.paper.specs.Limits.{dimensionOk}
 use Rattle.contents.proofs.limits.dimension_ok.Statement.{statement}

@@ -1,4 +1,4 @@
--- `limits::term_limit` meets its contract.
+-- `contents::limits::term_limit` meets its contract.
 use borrow.Author.Tests.{eq-eqb, ne-eqb}
 use Rattle.paper.specs.Limits.{termLimit}
 use Rattle.contents.proofs.limits.term_limit.Statement.{statement}

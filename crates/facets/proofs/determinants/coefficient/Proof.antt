@@ -1,4 +1,4 @@
--- `determinants::coefficient` meets its contract: the coefficient is the cofactor.
+-- `facets::determinants::coefficient` meets its contract: the coefficient is the cofactor.
 use Rattle.facets.proofs.FacetMinors.{cofactor-even, cofactor-odd, opposite-fits}
 use borrow.Author.Needs.{needs}
 use Rattle.facets.proofs.determinants.coefficient.Statement.{statement}

@@ -1,4 +1,4 @@
--- `determinants::determinant` meets its contract: before vertex i the sum is that of the first i weights, and all of them are D.
+-- `facets::determinants::determinant` meets its contract: before vertex i the sum is that of the first i weights, and all of them are D.
 use Prim.Native.Nat.{_*_, _-_, _≤_}
 use native.Mathlib.Omega.{arith}
 use mir.Syntax.{w64}

@@ -1,4 +1,4 @@
--- `determinants::entry` meets its contract: below the top row the entry is a cell, which is small enough to be read back from its bits.
+-- `facets::determinants::entry` meets its contract: below the top row the entry is a cell, which is small enough to be read back from its bits.
 use Rattle.facets.proofs.Entries.{top-entry, lower-entry}
 use borrow.Author.Needs.{needs}
 use Rattle.facets.proofs.determinants.entry.Statement.{statement}

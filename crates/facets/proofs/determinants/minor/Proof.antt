@@ -1,4 +1,4 @@
--- `determinants::minor` meets its contract: the rows and vertices that are left are those of the definition, and in each dimension the leaf called
+-- `facets::determinants::minor` meets its contract: the rows and vertices that are left are those of the definition, and in each dimension the leaf called
 -- is the determinant of them.
 use native.Mathlib.Omega.{arith}
 use Rattle.facets.proofs.Entries.{cells-most, cells-four}

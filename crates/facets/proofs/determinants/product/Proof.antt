@@ -1,4 +1,4 @@
--- `determinants::product` meets its contract: the entries are at most 2 ^ 19 in size, so the product fits.
+-- `facets::determinants::product` meets its contract: the entries are at most 2 ^ 19 in size, so the product fits.
 use Rattle.exact.proofs.Bits.{fits-mul, holds-mul}
 use lib.Dec.{lit≤}
 use Rattle.facets.proofs.Entries.{entry-of-three, two-rows-of-three, within-most}

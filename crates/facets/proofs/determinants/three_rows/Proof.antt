@@ -1,4 +1,4 @@
--- `determinants::three_rows` meets its contract: three products fit together, and are the expansion along the first row.
+-- `facets::determinants::three_rows` meets its contract: three products fit together, and are the expansion along the first row.
 use mathlib.Core.Path.{sym, _∙_}
 use lib.Dec.{lit≤}
 use Rattle.exact.proofs.Bits.{holds-call, fits-sub, fits-add, holds-sub, holds-add}

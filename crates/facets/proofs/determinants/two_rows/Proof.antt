@@ -1,4 +1,4 @@
--- `determinants::two_rows` meets its contract: the entries are at most 2 ^ 28 in size, so both products and their difference fit.
+-- `facets::determinants::two_rows` meets its contract: the entries are at most 2 ^ 28 in size, so both products and their difference fit.
 use Prim.Native.Nat.{_^_}
 use mathlib.Core.Path.{sym, _∙_}
 use lib.IntN.{_*ℤ_}

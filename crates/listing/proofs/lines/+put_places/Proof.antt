@@ -1,4 +1,4 @@
--- `lines::put_places` meets its contract, as the one member of its cycle of calls. The measure is the count: the rest has one place fewer.
+-- `listing::lines::put_places` meets its contract, as the one member of its cycle of calls. The measure is the count: the rest has one place fewer.
 use mathlib.Core.Path.{sym, _∙_}
 use native.Mathlib.Omega.{arith}
 use lib.Seq.{length-take-le}

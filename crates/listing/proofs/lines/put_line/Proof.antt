@@ -1,4 +1,4 @@
--- `lines::put_line` meets its contract: Point does not refuse the place, so its answer is the point.
+-- `listing::lines::put_line` meets its contract: Point does not refuse the place, so its answer is the point.
 use native.Mathlib.Nat.{le-refl}
 use denote.Ref.{now}
 use borrow.Author.Needs.{needs}

@@ -1,4 +1,4 @@
--- `lines::put_listing` meets its contract: a job that is too long, one that does not open, and one that does.
+-- `listing::lines::put_listing` meets its contract: a job that is too long, one that does not open, and one that does.
 use Prim.Native.Nat.{_≤_, _<_}
 use mathlib.Core.Path.{_∙_}
 use native.Mathlib.Omega.{arith}

@@ -1,4 +1,4 @@
--- `lines::put_opened` meets its contract: a trace that is refused, and one that is listed.
+-- `listing::lines::put_opened` meets its contract: a trace that is refused, and one that is listed.
 use mathlib.Core.Path.{_∙_}
 use native.Mathlib.Omega.{arith}
 use denote.Ref.{now}

@@ -1,4 +1,4 @@
--- `lines::put_trace` meets its contract: the first line, then the lines of the places.
+-- `listing::lines::put_trace` meets its contract: the first line, then the lines of the places.
 use Prim.Native.Nat.{zero-le}
 use native.Mathlib.Omega.{arith}
 use denote.Ref.{now}

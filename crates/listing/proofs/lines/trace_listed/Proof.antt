@@ -1,4 +1,4 @@
--- `lines::trace_listed` meets its contract: the part lent has space for 4,096 places, the places read back from it are
+-- `listing::lines::trace_listed` meets its contract: the part lent has space for 4,096 places, the places read back from it are
 -- the trace's, and every other byte is as found.
 use mathlib.Core.Path.{sym}
 use native.Mathlib.Omega.{arith}

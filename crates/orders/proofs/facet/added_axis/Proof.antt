@@ -1,4 +1,4 @@
--- `facet::added_axis` meets its contract: two vertices in a row differ by one axis of the order, the lowest of that mask.
+-- `orders::facet::added_axis` meets its contract: two vertices in a row differ by one axis of the order, the lowest of that mask.
 use mathlib.Core.Path.{_≡_, sym, ap, _∙_}
 use mathlib.Core.List.{[]}
 use Prim.Native.Nat.{_+_, _^_}

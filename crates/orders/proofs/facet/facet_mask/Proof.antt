@@ -1,4 +1,4 @@
--- `facet::facet_mask` meets its contract: vertex masks rise, so the difference does not wrap (`skip-rises`).
+-- `orders::facet::facet_mask` meets its contract: vertex masks rise, so the difference does not wrap (`skip-rises`).
 use mathlib.Core.Path.{_≡_, ap, ap₂, _∙_}
 use Prim.Native.Nat.{_-_}
 use native.Mathlib.Omega.{arith}

@@ -1,4 +1,4 @@
--- `facet::side` meets its contract, by the rule of flat and of bent facets (`side-is`).
+-- `orders::facet::side` meets its contract, by the rule of flat and of bent facets (`side-is`).
 use mathlib.Core.Path.{_≡_, sym, ap, _∙_}
 use mathlib.Core.Bool.{true, false}
 use Prim.Native.Nat.{suc, _-_}

@@ -1,4 +1,4 @@
--- `facet::skip` meets its contract: below the element left out an index stays, from it on it is one further.
+-- `orders::facet::skip` meets its contract: below the element left out an index stays, from it on it is one further.
 use mathlib.Core.Path.{sym}
 use native.Mathlib.Omega.{arith}
 use Rattle.exact.proofs.Position.{skip-below, skip-above}

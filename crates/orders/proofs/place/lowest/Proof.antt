@@ -1,4 +1,4 @@
--- `place::lowest` meets its contract: without vertex 0 the facet's lowest vertex lies one above the corner, else it is the corner.
+-- `orders::place::lowest` meets its contract: without vertex 0 the facet's lowest vertex lies one above the corner, else it is the corner.
 use native.Mathlib.Omega.{arith}
 use borrow.Author.Needs.{needs}
 use Rattle.orders.specs.Table.{orderAt, axisAt}

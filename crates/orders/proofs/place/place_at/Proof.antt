@@ -1,4 +1,4 @@
--- `place::place_at` meets its contract: the lowest vertex, the masks and the side of the facet (`place-is`).
+-- `orders::place::place_at` meets its contract: the lowest vertex, the masks and the side of the facet (`place-is`).
 use borrow.Author.Needs.{needs}
 use Rattle.orders.proofs.Anywhere.{place-is}
 use Rattle.orders.proofs.place.place_at.Statement.{statement}

@@ -1,4 +1,4 @@
--- `table::axis` meets its contract: the arrays have the table's entries (`entry-two`, `entry-three`).
+-- `orders::table::axis` meets its contract: the arrays have the table's entries (`entry-two`, `entry-three`).
 use Prim.Native.Nat.{_<_}
 use mathlib.Core.Path.{_≡_, _∙_}
 use native.Mathlib.Omega.{arith}

@@ -1,4 +1,4 @@
--- `table::rows` meets its contract.
+-- `orders::table::rows` meets its contract.
 use mathlib.Core.Path.{sym, ap, _∙_}
 use native.Mathlib.Omega.{arith}
 use lib.ListN.{length}

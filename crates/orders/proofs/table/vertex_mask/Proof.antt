@@ -1,4 +1,4 @@
--- `table::vertex_mask` meets its contract: the arrays have the masks of the table's vertices (`mask-two`, `mask-three`).
+-- `orders::table::vertex_mask` meets its contract: the arrays have the masks of the table's vertices (`mask-two`, `mask-three`).
 use Prim.Native.Nat.{_<_}
 use mathlib.Core.Path.{_≡_, sym, _∙_}
 use native.Mathlib.Omega.{arith}

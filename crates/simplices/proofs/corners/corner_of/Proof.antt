@@ -1,4 +1,4 @@
--- `corners::corner_of` meets its contract: without vertex 0 the facet's lowest vertex lies one above the corner, else it is the corner.
+-- `simplices::corners::corner_of` meets its contract: without vertex 0 the facet's lowest vertex lies one above the corner, else it is the corner.
 use native.Mathlib.Omega.{arith}
 use borrow.Author.Needs.{needs}
 use Rattle.orders.specs.Table.{orderAt, axisAt}

@@ -1,4 +1,4 @@
--- `corners::next` meets its contract: the place of the facet without vertex `out`, turned.
+-- `simplices::corners::next` meets its contract: the place of the facet without vertex `out`, turned.
 use mathlib.Core.Path.{ap}
 use native.Mathlib.Omega.{arith}
 use borrow.Author.Needs.{needs}

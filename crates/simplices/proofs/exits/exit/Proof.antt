@@ -1,4 +1,4 @@
--- `exits::exit` meets its contract. The loop's invariant: the search goes on from q (`exit-here`, `exit-later`, `exit-end`).
+-- `simplices::exits::exit` meets its contract. The loop's invariant: the search goes on from q (`exit-here`, `exit-later`, `exit-end`).
 use Prim.Native.Nat.{suc, _-_, _≤_}
 use mathlib.Core.Path.{_≡_, sym, _∙_}
 use native.Mathlib.Omega.{arith}

@@ -1,4 +1,4 @@
--- `exits::is_other` meets its contract.
+-- `simplices::exits::is_other` meets its contract.
 use mathlib.Core.Path.{sym, ap, _∙_}
 use mathlib.Core.Bool.{not, _&&_}
 use borrow.Author.Needs.{needs}

@@ -1,4 +1,4 @@
--- `search::find` meets its contract. The loop's invariant: no vertex of a row before `row` matches. So the loop is not left at its end:
+-- `simplices::search::find` meets its contract. The loop's invariant: no vertex of a row before `row` matches. So the loop is not left at its end:
 -- some row matches (`some-match`).
 use Prim.Native.Nat.{ℕ, _-_, _≤_, _<_}
 use mathlib.Core.Path.{_≡_}

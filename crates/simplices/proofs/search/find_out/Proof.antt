@@ -1,4 +1,4 @@
--- `search::find_out` meets its contract. The loop's invariant: no vertex before `out` matches.
+-- `simplices::search::find_out` meets its contract. The loop's invariant: no vertex before `out` matches.
 use Prim.Native.Nat.{ℕ, suc, _-_, _≤_, _<_}
 use mathlib.Core.Path.{_≡_, sym, _∙_}
 use mathlib.Core.Bool.{false}

@@ -1,4 +1,4 @@
--- `search::matches` meets its contract: the masks first, then the side.
+-- `simplices::search::matches` meets its contract: the masks first, then the side.
 use mathlib.Core.Path.{sym, ap, _∙_}
 use mathlib.Core.Bool.{_&&_}
 use lib.Dec.{eqb}

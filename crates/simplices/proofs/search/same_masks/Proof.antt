@@ -1,4 +1,4 @@
--- `search::same_masks` meets its contract: it compares the masks that the dimension has (`masks-compared`).
+-- `simplices::search::same_masks` meets its contract: it compares the masks that the dimension has (`masks-compared`).
 use mathlib.Core.Path.{sym, _∙_}
 use borrow.Author.Needs.{needs}
 use borrow.Author.Tests.{eq-eqb, ne-eqb}

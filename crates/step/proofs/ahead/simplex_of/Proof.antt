@@ -1,4 +1,4 @@
--- `ahead::simplex_of` meets its contract: the masks read from the table are those of the row's vertices.
+-- `step::ahead::simplex_of` meets its contract: the masks read from the table are those of the row's vertices.
 use borrow.Author.Needs.{needs}
 use Rattle.step.proofs.RowVertices.{row-found}
 use Rattle.step.proofs.ahead.simplex_of.Statement.{statement}

@@ -1,4 +1,4 @@
--- `walks::visit` meets its contract: the place is written, and the step from it decides.
+-- `trace::walks::visit` meets its contract: the place is written, and the step from it decides.
 use borrow.Author.Needs.{needs}
 use mathlib.Core.Path.{sym, subst, _∙_}
 use Rattle.places.specs.Held.{placeAs}

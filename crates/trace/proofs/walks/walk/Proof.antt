@@ -1,4 +1,4 @@
--- `walks::walk` meets its contract. The invariant: the places written so far, followed by the trace from `here`, are the whole
+-- `trace::walks::walk` meets its contract. The invariant: the places written so far, followed by the trace from `here`, are the whole
 -- trace, and the buffer has their bytes. The measure is the space that is left.
 use Prim.Native.Nat.{_-_}
 use native.Mathlib.Omega.{arith}

@@ -1,4 +1,4 @@
--- `lattice::axis_inside` meets its contract: both ends count.
+-- `values::lattice::axis_inside` meets its contract: both ends count.
 use mir.Syntax.{w64}
 use mir.ValLaws.{toZ-ofZ}
 use Rattle.paper.specs.Job.{lowEnd, highEnd}

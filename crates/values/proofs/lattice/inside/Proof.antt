@@ -1,4 +1,4 @@
--- `lattice::inside` meets its contract: one axis after the other, the third and the fourth only if they count.
+-- `values::lattice::inside` meets its contract: one axis after the other, the third and the fourth only if they count.
 use mathlib.Core.Path.{_≡_, sym, _∙_}
 use mathlib.Core.Bool.{Bool, true}
 use native.Mathlib.Omega.{arith}

@@ -1,4 +1,4 @@
--- `lattice::moved` meets its contract: each axis by its own branch; no axis from 4 on counts.
+-- `values::lattice::moved` meets its contract: each axis by its own branch; no axis from 4 on counts.
 use native.Mathlib.Omega.{arith}
 use Rattle.values.proofs.Moves.{move-fits, move-is, unit-back, kept-back, moved-first, moved-second, moved-third, moved-fourth, moved-past}
 use Rattle.values.proofs.lattice.moved.Statement.{statement}

@@ -1,4 +1,4 @@
--- `lattice::plus_bit` meets its contract: a coordinate and one bit.
+-- `values::lattice::plus_bit` meets its contract: a coordinate and one bit.
 use Rattle.values.proofs.Moves.{move-fits, move-is, bit-size, bit-number}
 use borrow.Author.Needs.{needs}
 use Rattle.values.proofs.lattice.plus_bit.Statement.{statement}

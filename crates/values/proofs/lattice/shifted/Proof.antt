@@ -1,4 +1,4 @@
--- `lattice::shifted` meets its contract: each coordinate takes its bit of the mask.
+-- `values::lattice::shifted` meets its contract: each coordinate takes its bit of the mask.
 use Rattle.exact.proofs.Bits.{back-size}
 use Rattle.values.proofs.Moves.{move-whole, moved-back, shifted-is}
 use Rattle.values.proofs.lattice.shifted.Statement.{statement}

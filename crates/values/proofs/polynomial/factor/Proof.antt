@@ -1,4 +1,4 @@
--- `polynomial::factor` meets its contract: the exponent's byte lies inside the body, and the exponent inside the table.
+-- `values::polynomial::factor` meets its contract: the exponent's byte lies inside the body, and the exponent inside the table.
 use native.Mathlib.Omega.{arith}
 use Rattle.paper.specs.Job.{exponentOf}
 use Rattle.values.proofs.Limits.{degree-limit}

@@ -1,4 +1,4 @@
--- `polynomial::monomial` meets its contract: the factors of the axes that count, whose exponents together are within the degree's limit.
+-- `values::polynomial::monomial` meets its contract: the factors of the axes that count, whose exponents together are within the degree's limit.
 use native.Mathlib.Omega.{arith}
 use lib.Dec.{lit<}
 use Rattle.values.proofs.Monomials.{exponents, two-fit, two-powers, three-fit-last, three-fit, three-powers, four-fit-last, four-fit-upper, four-fit, four-powers}

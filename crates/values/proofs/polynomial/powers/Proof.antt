@@ -1,4 +1,4 @@
--- `polynomial::powers` meets its contract: each power is the one before times the coordinate.
+-- `values::polynomial::powers` meets its contract: each power is the one before times the coordinate.
 use Rattle.values.proofs.Powers.{square-fits, cube-fits, fourth-fits, powers-of}
 use native.Mathlib.Omega.{arith}
 use Rattle.exact.specs.Size.{Size}

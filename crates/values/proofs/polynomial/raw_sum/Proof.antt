@@ -1,4 +1,4 @@
--- `polynomial::raw_sum` meets its contract: the tables are those of the vertex.
+-- `values::polynomial::raw_sum` meets its contract: the tables are those of the vertex.
 use Rattle.exact.proofs.Bits.{back-size}
 use Rattle.values.proofs.Limits.{coordinate-word}
 use Rattle.values.proofs.Powers.{tables, tabled-is}

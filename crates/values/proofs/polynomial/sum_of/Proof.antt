@@ -1,4 +1,4 @@
--- `polynomial::sum_of` meets its contract. The loop's invariant: the sum so far and the terms left are the whole sum, and the sum so far is
+-- `values::polynomial::sum_of` meets its contract. The loop's invariant: the sum so far and the terms left are the whole sum, and the sum so far is
 -- at most a term's size for each term.
 use Prim.Native.Nat.{_≤_, _<_, _-_}
 use native.Mathlib.Omega.{arith}

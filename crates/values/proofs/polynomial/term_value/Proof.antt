@@ -1,4 +1,4 @@
--- `polynomial::term_value` meets its contract: the coefficient times the monomial.
+-- `values::polynomial::term_value` meets its contract: the coefficient times the monomial.
 use native.Mathlib.Omega.{arith}
 use Rattle.paper.specs.Job.{coefficientOf}
 use Rattle.values.proofs.Monomials.{term-inside, exponents, term-fits, term-product}

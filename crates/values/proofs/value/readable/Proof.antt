@@ -1,4 +1,4 @@
--- `value::readable` meets its contract: it compares the size with the limit.
+-- `values::value::readable` meets its contract: it compares the size with the limit.
 use borrow.Author.Needs.{needs}
 use Rattle.exact.proofs.Bits.{back-is}
 use Rattle.paper.specs.Values.{readableSum}

@@ -1,4 +1,4 @@
--- `value::value_of` meets its contract: the value is the sum.
+-- `values::value::value_of` meets its contract: the value is the sum.
 use Rattle.exact.proofs.Bits.{back-is}
 use Rattle.paper.specs.Values.{valueOf}
 use Rattle.values.proofs.Limits.{sum-word}
