@@ -1,7 +1,6 @@
 -- The numbers that the code writes for its room are those of the named limits.
-use Prim.Native.Nat.{ℕ, _*_}
+use Prim.Native.Nat.{ℕ}
 use mathlib.Core.Path.{_≡_, refl, sym}
-use native.Mathlib.Omega.{arith}
 use lib.ListN.{length, replicate, length-replicate}
 use Rattle.paper.specs.Listing.{listingSpace, longestJob}
 use Rattle.listing.specs.Room.{jobRoom, placesRoom, textRoom}
@@ -14,6 +13,10 @@ pub job-room : jobRoom ≡ 2049
 unfolding longestJob
 job-room = refl
 
+pub listing-space : listingSpace ≡ 4096
+unfolding listingSpace
+listing-space = refl
+
 pub places-room : placesRoom ≡ 49152
 unfolding listingSpace
 places-room = refl
@@ -21,11 +24,6 @@ places-room = refl
 pub text-room : textRoom ≡ 978992
 unfolding listingSpace
 text-room = refl
-
--- the part of the room for places that Trace is lent: 4,096 places of 3n bytes
-pub trace-room : (n : ℕ) → 12288 * n ≡ listingSpace * (3 * n)
-unfolding listingSpace
-trace-room n = omega arith
 
 -- an array of zeros is so long
 pub zeros-long : (n : ℕ) → n ≡ length {A = ℕ} (replicate n 0)

@@ -22,15 +22,15 @@ use Rattle.paper.specs.Listing.{listingSpace}
 use Rattle.paper.specs.Demand3.{readPlaces}
 use Rattle.paper.specs.declared.Verdict.{Verdict}
 use Rattle.paper.specs.declared.Traced as Traced
+use Rattle.paper.proofs.Tests.{DimensionRange}
 use Rattle.paper.proofs.Refusals.{answered-inv}
-use Rattle.paper.proofs.Opens.{Opens, opens, opens-range}
+use Rattle.paper.proofs.Opens.{opens, opens-range}
 use Rattle.paper.proofs.StartTraceable.{start-traceable}
 use Rattle.paper.proofs.PlacesWritten.{listed-traceable, places-read, traced-writable, traced-fits}
 use Rattle.job.specs.OpenJob.{JobOf}
 use Rattle.listing.specs.Listed.{listedTrace, listedAs}
 use Rattle.listing.specs.Room.{placesRoom}
 use Rattle.listing.specs.Shown.{HaveLines}
-use Rattle.listing.proofs.RoomSizes.{places-room, trace-room}
 use Rattle.listing.proofs.PlacesShown.{readPlaces-length, have-lines}
 
 -- ---- the buffer
@@ -81,30 +81,31 @@ front-written s b k = go (traced s (spaceOf s (take k b))) refl
         ∙ ap (drop (length bytes)) (take-append-drop k b) in
         append-assoc bytes (drop (length bytes) (take k b)) (drop k b) ∙ ap (λ (x : List ℕ). bytes ++ x) whole
 
-module _ {n : ℕ} {s : List ℕ} (j : JobOf n s) (b : List ℕ) (long : length b ≡ placesRoom) where
-  opened : Opens s
-  opened = opens s (j .opens)
+pub job-range : {n : ℕ} {s : List ℕ} → JobOf n s → DimensionRange n
+job-range {n} {s} j = rw (j .dimension) (opens-range (opens s (j .opens)))
 
-  pub part-inside : 12288 * n ≤ length b
-  part-inside = omega (arith, long, places-room, j .dimension, opens-range opened)
+-- the part of the room that Trace is lent has space for 4,096 places
+module _ {n room : ℕ} {s : List ℕ} (j : JobOf n s) (b : List ℕ) (long : length b ≡ placesRoom) where
+  pub part-inside : room ≡ listingSpace * (3 * n) → room ≤ length b
+  part-inside part =
+      let most : listingSpace * (3 * n) ≤ listingSpace * (3 * 4) = mul-le-mul-left listingSpace (omega (arith, job-range j)) in
+      omega (arith, part, long, most)
 
-  part-space : spaceOf s (take (12288 * n) b) ≡ listingSpace
-  part-space = space-is s b (12288 * n) listingSpace (trace-room n ∙ ap (λ (m : ℕ). listingSpace * (3 * m)) (j .dimension)) (opens-range opened .low) part-inside
+  part-space : room ≡ listingSpace * (3 * n) → spaceOf s (take room b) ≡ listingSpace
+  part-space part =
+      space-is s b room listingSpace (part ∙ ap (λ (m : ℕ). listingSpace * (3 * m)) (j .dimension)) (omega (arith, job-range j, j .dimension)) (part-inside part)
 
-  pub trace-read-back : (part rest : List ℕ) (r : Traced.Traced)
-      → tracedAs r ≡ verdictAndCount (traced s (spaceOf s (take (12288 * n) b)))
-      → part ≡ bufferAfter (traced s (spaceOf s (take (12288 * n) b))) (take (12288 * n) b)
-      → listedAs s (part ++ rest) r ≡ traced s listingSpace
-  trace-read-back part rest r answer written =
-      rw written
-      (rw part-space (read-back s (take (12288 * n) b) rest listingSpace (traced s listingSpace) refl r (rw part-space at answer)))
-
-  pub trace-written : (part : List ℕ)
-      → part ≡ bufferAfter (traced s (spaceOf s (take (12288 * n) b))) (take (12288 * n) b)
-      → part ++ drop (12288 * n) b ≡ bufferAfter (traced s listingSpace) b
-  trace-written part written =
-      ap (λ (x : List ℕ). x ++ drop (12288 * n) b) written ∙ front-written s b (12288 * n)
-      ∙ ap (λ (k : ℕ). bufferAfter (traced s k) b) part-space
+  pub part-traced : (r : Traced.Traced) {front : List ℕ}
+      → tracedAs r ≡ verdictAndCount (traced s (spaceOf s (take room b)))
+      → front ≡ bufferAfter (traced s (spaceOf s (take room b))) (take room b)
+      → room ≡ listingSpace * (3 * n)
+      → (listedAs s (front ++ drop room b) r ≡ traced s listingSpace) × (front ++ drop room b ≡ bufferAfter (traced s listingSpace) b)
+  part-traced r {front} answer written part =
+      let space = part-space part in (
+        rw written
+        (rw space (read-back s (take room b) (drop room b) listingSpace (traced s listingSpace) refl r (rw space at answer))),
+        ap (λ (x : List ℕ). x ++ drop room b) written ∙ front-written s b room ∙ ap (λ (k : ℕ). bufferAfter (traced s k) b) space,
+      )
 
 -- ---- what the lines ask
 
