@@ -103,7 +103,7 @@ module _ {n room : ℕ} {s : List ℕ} (j : JobOf n s) (b : List ℕ) (long : le
   part-traced r {front} answer written part =
       let space = part-space part in (
         rw written
-        (rw space (read-back s (take room b) (drop room b) listingSpace (traced s listingSpace) refl r (rw space at answer))),
+            (rw space (read-back s (take room b) (drop room b) listingSpace (traced s listingSpace) refl r (rw space at answer))),
         ap (λ (x : List ℕ). x ++ drop room b) written ∙ front-written s b room ∙ ap (λ (k : ℕ). bufferAfter (traced s k) b) space,
       )
 
