@@ -1,20 +1,20 @@
 -- The vertices of a facet and of a simplex as the code names them are the definition's, and what was found of them is the facet's refusal and
 -- the columns of both.
-use mathlib.Core.Path.{_≡_, refl, sym, ap, _∙_}
+use mathlib.Core.Path.{_≡_, refl, ap, _∙_}
 use mathlib.Core.Bool.{Bool, true, false, not, cond}
-use mathlib.Core.List.{List, [], _∷_, map}
+use mathlib.Core.List.{List, map}
 use Prim.Native.Nat.{ℕ, suc, zero, _+_, _≤_, _<_}
 use native.Mathlib.Omega.{arith}
 use lib.IntN.{ℤ}
-use lib.ListN.{length, getD, take, replicate}
+use lib.ListN.{getD, replicate}
 use lib.Dec.{lit≤}
 use Rattle.exact.specs.Int.{0ℤ}
 use Rattle.exact.specs.Crossed.{countFrom}
 use Rattle.exact.proofs.SizeLaws.{size-pos, size-weaken}
-use Rattle.curves.specs.Grid.{plus, vertices, distinct, masksFrom, Facet, facetVertices}
+use Rattle.curves.specs.Grid.{Facet, facetVertices}
 use Rattle.curves.specs.Grid as Grid
 use Rattle.curves.specs.Step.{columns, every}
-use Rattle.curves.proofs.Vertices.{plus-zero, vertices-masks}
+use Rattle.curves.proofs.Vertices.{plus-zero}
 use Rattle.paper.specs.Job.{refuseIf}
 use Rattle.paper.specs.Values.{fieldOf}
 use Rattle.paper.specs.Operations.{facetRefusal}
@@ -22,7 +22,7 @@ use Rattle.bits.specs.Axes.{Axes}
 use Rattle.bits.proofs.EachDimension.{each-axes}
 use Rattle.places.specs.declared.Vertex.{Vertex}
 use Rattle.places.specs.declared.HeldPlace.{HeldPlace}
-use Rattle.places.specs.Held.{vertexAs, masksAs, facetAs}
+use Rattle.places.specs.Held.{masksAs, facetAs}
 use Rattle.facets.specs.Cells.{columnAt, simplexColumns, facetColumns, Cells}
 use Rattle.columns.specs.Vertices.{maskAt, vertexAt, vertexList, simplexVertices}
 use Rattle.columns.specs.Found.{stopNumber, ColumnsFound, FacetFound, SimplexFound}
@@ -60,12 +60,6 @@ pub simplex-list : (n : ℕ) → Axes n → (c : Vertex) (m1 m2 m3 m4 : ℕ) →
 unfolding vertexList vertexAt maskAt countFrom simplexVertices
 simplex-list n a c m1 m2 m3 m4 =
     each-axes (λ d. vertexList d c m1 m2 m3 m4 (d + 1) ≡ simplexVertices d c m1 m2 m3 m4) refl refl refl n a
-
--- the vertices of the simplex with an order whose masks they are
-pub simplex-order : (n : ℕ) (c : Vertex) (m1 m2 m3 m4 : ℕ) (o : List ℕ) → distinct o ≡ true → take n (m1 ∷ m2 ∷ m3 ∷ m4 ∷ []) ≡ masksFrom 0 o
-    → simplexVertices n c m1 m2 m3 m4 ≡ vertices (vertexAs n c) o
-unfolding simplexVertices
-simplex-order n c m1 m2 m3 m4 o d e = rw (e, plus-zero) (sym (vertices-masks (vertexAs n c) o d))
 
 -- ---- the columns
 

@@ -1,20 +1,19 @@
 -- What a job that opens gives: its box and its polynomials are as the functions over them ask, a vertex in its box is near, and a value of a
 -- readable sum is within the limit of the cells.
 use mathlib.Core.Path.{_≡_, subst}
-use mathlib.Core.Logic.{_⊎_, inl, inr}
 use mathlib.Core.Bool.{true}
 use mathlib.Core.List.{List}
 use Prim.Native.Nat.{ℕ, _*_, _≤_, _<_}
 use lib.IntN.{ℤ}
 use lib.ListN.{length}
 use lib.Dec.{lit≤}
-use borrow.Author.Tests.{leb-true}
+use borrow.Author.Tests.{leb-true, le-leb}
 use Rattle.exact.specs.Size.{Size}
 use Rattle.exact.proofs.SizeLaws.{size-weaken}
 use Rattle.paper.specs.Limits.{dimensionOk, readableLimit}
 use Rattle.paper.specs.Job.{dimension, body}
 use Rattle.paper.specs.Values.{readableSum, valueOf, fieldOf}
-use Rattle.paper.proofs.Tests.{two-or-three}
+use Rattle.paper.proofs.Tests.{dimension-range}
 use Rattle.paper.proofs.Opens.{Opens, opens}
 use Rattle.paper.proofs.Bodies.{box-length, terms-high}
 use Rattle.bits.specs.Axes.{Axes}
@@ -30,11 +29,7 @@ use Rattle.facets.specs.Cells.{entryLimit}
 -- readable values are within the limit of the cells, in the dimensions of a job
 readable-entry : (n : ℕ) → dimensionOk n ≡ true → readableLimit n ≤ entryLimit n
 unfolding readableLimit entryLimit
-readable-entry n d = go (two-or-three n d)
-  where
-    go : (n ≡ 2) ⊎ (n ≡ 3) → readableLimit n ≤ entryLimit n
-    go (inl e) = rw e (lit≤ tt)
-    go (inr e) = rw e (lit≤ tt)
+readable-entry n d = rw (le-leb n 3 (dimension-range n d .high)) (lit≤ tt)
 
 module _ {n : ℕ} {s : List ℕ} (j : JobOf n s) where
   opened : Opens s

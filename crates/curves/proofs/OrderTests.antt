@@ -8,7 +8,7 @@ use native.Mathlib.Numerals.{add-one}
 use lib.ListN.{length, length-append}
 use lib.Dec.{eqb, ltb}
 use borrow.Author.Tests.{eqb-true, eqb-false, eq-eqb, ne-eqb, ltb-true, not-true}
-use Rattle.exact.proofs.AndTests.{and-left, and-right, and-true}
+use Rattle.exact.proofs.AndTests.{and-left, and-right}
 use Rattle.curves.specs.Grid.{absent, distinct, under, isOrder, exchange}
 
 -- ---- the parts of an order

@@ -1,22 +1,17 @@
 -- A corner and a facet's lowest vertex as moved vertices, and the coordinates that do not count, which neither changes.
-use Prim.Native.Nat.{ℕ, suc, zero, _+_, _-_, _≤_, _<_}
+use Prim.Native.Nat.{ℕ, suc, zero, _+_, _-_, _<_}
 use mathlib.Core.Path.{_≡_, refl, sym, ap, _∙_, subst}
 use mathlib.Core.Bool.{Bool, true, false}
 use mathlib.Core.List.{List, [], _∷_}
 use native.Mathlib.Omega.{arith}
 use native.Mathlib.Nat.{not-suc-le-zero}
-use lib.IntN.{ℤ, negsuc, _+ℤ_}
-use lib.ListN.{length, getD, take, drop}
+use lib.IntN.{ℤ, negsuc}
+use lib.ListN.{length, getD, drop}
 use lib.Seq.{getD-take, getD-drop}
-use lib.Dec.{ltb, lit≤}
+use lib.Dec.{ltb}
 use borrow.Author.Tests.{ltb-true, ltb-false}
-use mir.Syntax.{w64}
-use mir.Val.{SFits}
-use Rattle.exact.specs.Int.{_⊕_, _⊖_, neg, 0ℤ, 1ℤ}
+use Rattle.exact.specs.Int.{0ℤ, 1ℤ}
 use Rattle.exact.specs.Size.{Size}
-use Rattle.exact.proofs.SizeLaws.{size-add, size-weaken}
-use Rattle.exact.proofs.Bits.{holds, back, fits-add, holds-add}
-use Rattle.curves.specs.Grid.{up, down}
 use Rattle.curves.specs.Grid as Grid
 use Rattle.places.specs.declared.Vertex.{Vertex}
 use Rattle.places.specs.Held.{vertexAs, VertexSize}

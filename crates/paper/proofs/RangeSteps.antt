@@ -1,12 +1,10 @@
 -- A loop that tests each number of a range: what one turn says of the whole range. `full` is the test of the whole range, and
 -- the loop's invariant is that it is the test of what is left.
-use mathlib.Core.Path.{_≡_, refl, sym, ap, _∙_}
+use mathlib.Core.Path.{_≡_, sym, ap, _∙_}
 use mathlib.Core.Bool.{Bool, true, false, not}
-use Prim.Native.Nat.{ℕ, suc, zero, _+_, _-_, _≤_, _<_}
+use Prim.Native.Nat.{ℕ, suc, _+_, _-_, _≤_, _<_}
 use native.Mathlib.Omega.{arith}
-use lib.ListN.{length}
 use borrow.Author.Tests.{not-true, not-false}
-use Rattle.exact.specs.Crossed.{countFrom}
 use Rattle.paper.specs.Job.{allFrom}
 use Rattle.paper.proofs.Tests.{all-first, all-fails}
 

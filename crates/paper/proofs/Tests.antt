@@ -1,7 +1,7 @@
 -- Boolean tests taken apart: `||`, a test that holds for each number of a range, and the two dimensions.
 use mathlib.Core.Path.{_≡_, refl, subst}
 use mathlib.Core.Logic.{_⊎_, inl, inr}
-use mathlib.Core.Bool.{Bool, true, false, _&&_, _||_, false≢true, true≢false}
+use mathlib.Core.Bool.{Bool, true, false, _||_, true≢false}
 use Prim.Native.Nat.{ℕ, suc, zero, _+_, _≤_, _<_}
 use native.Mathlib.Omega.{arith}
 use lib.Dec.{eqb}
@@ -54,25 +54,15 @@ all-fails t k m h = rw h
 
 -- ---- the dimensions
 
-pub two-or-three : (n : ℕ) → dimensionOk n ≡ true → (n ≡ 2) ⊎ (n ≡ 3)
-unfolding dimensionOk
-two-or-three n h = go (or-cases (eqb n 2) (eqb n 3) h)
-  where
-    go : (eqb n 2 ≡ true) ⊎ (eqb n 3 ≡ true) → (n ≡ 2) ⊎ (n ≡ 3)
-    go (inl e) = inl (eqb-true n 2 e)
-    go (inr e) = inr (eqb-true n 3 e)
-
--- bounds that hold of both
+-- the range of the dimensions
 pub record DimensionRange (n : ℕ) : Type 0 where
   pub low : 2 ≤ n
   pub high : n ≤ 3
 
 pub dimension-range : (n : ℕ) → dimensionOk n ≡ true → DimensionRange n
-dimension-range n h = go (two-or-three n h)
+unfolding dimensionOk
+dimension-range n h = go (or-cases (eqb n 2) (eqb n 3) h)
   where
-    go : (n ≡ 2) ⊎ (n ≡ 3) → DimensionRange n
-    go (inl e) = record { low = omega arith; high = omega arith }
-    go (inr e) = record { low = omega arith; high = omega arith }
-
-pub dimension-not-two : (n : ℕ) → dimensionOk n ≡ true → (n ≡ 2 → ⊥) → n ≡ 3
-dimension-not-two n h k = let r = dimension-range n h in omega arith
+    go : (eqb n 2 ≡ true) ⊎ (eqb n 3 ≡ true) → DimensionRange n
+    go (inl e) = let k : n ≡ 2 = eqb-true n 2 e in record { low = omega arith; high = omega arith }
+    go (inr e) = let k : n ≡ 3 = eqb-true n 3 e in record { low = omega arith; high = omega arith }

@@ -5,4 +5,3 @@ pub mod WordBytes
 pub mod PlaceStored
 pub mod SameNumbers
 pub mod PlaceAnswered
-pub mod TraceableFits

@@ -1,7 +1,6 @@
 -- A vertex and a place as the code holds them, with room for four axes: what they stand for in dimension n, and how large their numbers are.
 use Prim.Native.Nat.{ℕ, _-_}
 use mathlib.Core.List.{List, [], _∷_}
-use lib.IntN.{ℤ}
 use lib.ListN.{take}
 use Rattle.exact.specs.Size.{Size}
 use Rattle.curves.specs.Grid.{Facet, Place}

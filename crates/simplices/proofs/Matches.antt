@@ -4,8 +4,9 @@ use Prim.Native.Nat.{ℕ, suc, _-_, _≤_, _<_}
 use mathlib.Core.Path.{_≡_, refl, sym, ap, ap₂, _∙_}
 use mathlib.Core.Bool.{Bool, true, false, _&&_, cond, false≢true}
 use mathlib.Core.List.{List, [], _∷_, List·Memᴰ·not-nil, List·Memᴰ·cases-cons}
-use mathlib.Core.Logic.{⊎-elim}
+use mathlib.Core.Logic.{_⊎_, inl, inr, ⊎-elim}
 use native.Mathlib.Omega.{arith}
+use native.Mathlib.Decide.{ℕ-discrete}
 use lib.ListN.{length, getD, take}
 use lib.Dec.{eqb}
 use borrow.Author.Tests.{eqb-true, eq-eqb}
@@ -17,7 +18,7 @@ use Rattle.curves.proofs.IncidencePlace.{incidence-place}
 use Rattle.curves.proofs.IncidenceOf.{Valid, incidence-ok, place-incidence}
 use Rattle.curves.proofs.Orders.{orders-complete}
 use Rattle.paper.specs.Limits.{dimensionOk}
-use Rattle.paper.proofs.Tests.{two-or-three}
+use Rattle.paper.proofs.Tests.{DimensionRange, dimension-range}
 use Rattle.bits.specs.Axes.{Axes}
 use Rattle.bits.proofs.EachDimension.{each-axes}
 use Rattle.places.specs.declared.HeldPlace.{HeldPlace}
@@ -99,6 +100,14 @@ listed-at x (y ∷ l) m = ⊎-elim (λ e. (0, omega arith, sym e)) (λ r. go (li
     go : (k : ℕ) × (k < length l) × (getD l k [] ≡ x) → (k : ℕ) × (k < suc (length l)) × (getD (y ∷ l) k [] ≡ x)
     go (k, b, e) = (suc k, omega arith, e)
 
+-- a dimension that has a table of orders
+in-table : (n : ℕ) → DimensionRange n → (n ≡ 2) ⊎ (n ≡ 3)
+in-table n r = go (ℕ-discrete n 2)
+  where
+    go : Dec (n ≡ 2) → (n ≡ 2) ⊎ (n ≡ 3)
+    go (yes e) = inl e
+    go (no e) = inr (omega (arith, r .low, r .high))
+
 module _ (n : ℕ) (d : dimensionOk n ≡ true) (p : Place) (w : placeOk n p ≡ true) where
   simplex : Incidence
   simplex = incidence n p
@@ -114,7 +123,7 @@ module _ (n : ℕ) (d : dimensionOk n ≡ true) (p : Place) (w : placeOk n p ≡
   pub some-match : ((row : ℕ) → row < length (orders n) → (out : ℕ) → out ≤ n → matches n row out p ≡ false) → ⊥
   unfolding masksAt sideAt orderAt
   some-match none =
-      let (row, b, e) = listed-at (simplex .order) (orders n) (orders-complete n (two-or-three n d) (simplex .order) (valid .is-order)) in
+      let (row, b, e) = listed-at (simplex .order) (orders n) (orders-complete n (in-table n (dimension-range n d)) (simplex .order) (valid .is-order)) in
       false≢true
       (sym (none row b (simplex .out) (valid .out-bound))
       ∙ matches-of n row (simplex .out) p

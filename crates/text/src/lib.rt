@@ -1,6 +1,5 @@
 // The listing's lines: document 01, section "The listing", written into a lent buffer.
 
-ghost use mathlib.Core.Path.{_≡_};
 ghost use mathlib.Core.List.{[], _∷_};
 ghost use Prim.Native.Nat.{_+_, _≤_};
 ghost use lib.IntN.{pos};

@@ -9,10 +9,6 @@ use Rattle.paper.specs.Limits.{coordinateLimit, termLimit, coefficientLimit, de
 use Rattle.values.specs.Sums.{monomialLimit, termSize, sumLimit}
 use Rattle.values.specs.Moves.{moveLimit}
 
-pub coordinate-limit : coordinateLimit ≡ 256
-unfolding coordinateLimit
-coordinate-limit = refl
-
 pub degree-limit : degreeLimit ≡ 4
 unfolding degreeLimit
 degree-limit = refl

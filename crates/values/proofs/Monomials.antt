@@ -1,7 +1,7 @@
 -- The terms of a polynomial that has passed Open's tests, at the vertex of the tables of powers: a term's bytes lie inside the body, the
 -- exponents together are within the degree's limit, and so are the products within theirs.
 use mathlib.Core.Path.{_≡_}
-use mathlib.Core.List.{List, [], _∷_}
+use mathlib.Core.List.{List}
 use Prim.Native.Nat.{ℕ, _+_, _*_, _^_, _≤_, _<_}
 use native.Mathlib.Omega.{arith}
 use native.Mathlib.Nat.{le-trans}

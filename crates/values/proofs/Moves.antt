@@ -1,6 +1,6 @@
 -- Moved vertices: what the code adds to four coordinates is what the definitions add to the list of the first n of them, and each coordinate
 -- grows by at most 1.
-use mathlib.Core.Path.{_≡_, refl, sym, ap, _∙_}
+use mathlib.Core.Path.{_≡_, refl, ap, _∙_}
 use mathlib.Core.List.{[], _∷_}
 use Prim.Native.Nat.{ℕ, suc, zero, _+_, _/_, _%_, _≤_}
 use native.Mathlib.Omega.{arith}

@@ -1,5 +1,4 @@
 // The exact sum of a polynomial at a vertex, term by term; the powers of the coordinates are taken from tables.
-ghost use mathlib.Core.Path.{_≡_};
 ghost use Prim.Native.Nat.{_+_, _*_, _^_, _≤_, _<_};
 ghost use Rattle.exact.specs.Int.{power};
 ghost use Rattle.exact.specs.Size.{Size, Is};

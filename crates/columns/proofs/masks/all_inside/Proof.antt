@@ -1,5 +1,5 @@
 -- `columns::masks::all_inside` meets its contract. The loop's invariant: the vertices under k lie in the box.
-use mathlib.Core.Path.{_≡_, sym, ap, _∙_}
+use mathlib.Core.Path.{_≡_, sym}
 use mathlib.Core.Bool.{true}
 use Prim.Native.Nat.{ℕ, _≤_, _<_, _-_}
 use native.Mathlib.Omega.{arith}

@@ -1,6 +1,6 @@
 -- `values::lattice::inside` meets its contract: one axis after the other, the third and the fourth only if they count.
 use mathlib.Core.Path.{_≡_, sym, _∙_}
-use mathlib.Core.Bool.{Bool, true}
+use mathlib.Core.Bool.{true}
 use native.Mathlib.Omega.{arith}
 use borrow.Author.Tests.{not-true, not-false}
 use denote.Ref.{now}

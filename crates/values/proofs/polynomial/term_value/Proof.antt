@@ -2,7 +2,6 @@
 use native.Mathlib.Omega.{arith}
 use Rattle.paper.specs.Job.{coefficientOf}
 use Rattle.values.proofs.Monomials.{term-inside, exponents, term-fits, term-product}
-use borrow.Author.Needs.{needs}
 use Rattle.values.proofs.polynomial.term_value.Statement.{statement}
 use Rattle.values.proofs.polynomial.term_value.Tie as tie
 
