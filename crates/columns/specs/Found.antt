@@ -12,7 +12,7 @@ use Rattle.curves.specs.Step.{Field, column, columns, every}
 use Rattle.paper.specs.Job.{body}
 use Rattle.paper.specs.Values.{rawSum, readableSum, valueOf, fieldOf}
 use Rattle.paper.specs.Operations.{facetRefusal}
-use Rattle.facets.specs.Cells.{columnAt, simplexColumns, facetColumns, Cells}
+use Rattle.facets.specs.Cells.{stride, columnAt, simplexColumns, facetColumns, Cells}
 
 -- the value of polynomial k at a vertex, put at one place of the cells if its sum is readable
 pub record ValuePut (s : List ℕ) (n : ℕ) (v : Vertex) (k at : ℕ) (before : List ℤ) (r : Bool) (after : List ℤ) : Type 0 where
@@ -25,15 +25,15 @@ pub record ValuesPut (s : List ℕ) (n : ℕ) (v : Vertex) (i : ℕ) (before : L
   pub test : r ≡ fieldOf s .readable v
   pub cells : Cells n after
   pub column : r ≡ true → columnAt n after i ≡ column (fieldOf s) v
-  pub lower : (q : ℕ) → q < 3 * i → getD after q 0ℤ ≡ getD before q 0ℤ
-  pub upper : (q : ℕ) → 3 * i + (n - 1) ≤ q → getD after q 0ℤ ≡ getD before q 0ℤ
+  pub lower : (q : ℕ) → q < stride * i → getD after q 0ℤ ≡ getD before q 0ℤ
+  pub upper : (q : ℕ) → stride * i + (n - 1) ≤ q → getD after q 0ℤ ≡ getD before q 0ℤ
 
 -- the columns of some vertices, put in if the sums of all are readable; the cells behind them stay
 pub record ColumnsPut (s : List ℕ) (n : ℕ) (vs : List Vertex) (count : ℕ) (before : List ℤ) (r : Bool) (after : List ℤ) : Type 0 where
   pub test : r ≡ every (fieldOf s .readable) vs
   pub cells : Cells n after
   pub columns : r ≡ true → map (columnAt n after) (countFrom 0 count) ≡ columns (fieldOf s) vs
-  pub upper : (q : ℕ) → 3 * count ≤ q → getD after q 0ℤ ≡ getD before q 0ℤ
+  pub upper : (q : ℕ) → stride * count ≤ q → getD after q 0ℤ ≡ getD before q 0ℤ
 
 -- 0 nothing stops a step through these vertices; 1 one lies outside the box; 2 a value is not readable
 unfoldable pub stopNumber : Field → List Vertex → ℕ
@@ -44,7 +44,7 @@ pub record ColumnsFound (s : List ℕ) (n : ℕ) (vs : List Vertex) (count : ℕ
   pub number : stop ≡ stopNumber (fieldOf s) vs
   pub cells : Cells n after
   pub columns : stop ≡ 0 → map (columnAt n after) (countFrom 0 count) ≡ columns (fieldOf s) vs
-  pub upper : (q : ℕ) → 3 * count ≤ q → getD after q 0ℤ ≡ getD before q 0ℤ
+  pub upper : (q : ℕ) → stride * count ≤ q → getD after q 0ℤ ≡ getD before q 0ℤ
 
 -- the columns of a facet
 pub record FacetFound (s : List ℕ) (n : ℕ) (f : Facet) (refusal : ℕ) (after : List ℤ) : Type 0 where

@@ -1,5 +1,5 @@
 -- How the code holds the columns of a simplex: the values at up to five vertices in one array of fifteen numbers. Value k of vertex i stands
--- at 3 * i + k; the 1 on top of a column is not held. A facet is the simplex without one of its vertices; a facet alone takes the
+-- at stride * i + k; the 1 on top of a column is not held. A facet is the simplex without one of its vertices; a facet alone takes the
 -- vertices 0 .. n − 1, so it is the one without vertex n.
 use Prim.Native.Nat.{ℕ, suc, _+_, _*_, _-_, _^_}
 use mathlib.Core.Path.{_≡_}
@@ -15,12 +15,12 @@ use Rattle.exact.specs.Crossed.{countFrom, remove}
 use Rattle.bits.specs.Axes.{Axes}
 
 -- the numbers held of a vertex: the values of dimension 4
-unfoldable pub stride : ℕ
+abbrev pub stride : ℕ
 stride = 3
 
 -- the column of vertex i: 1, then its n − 1 values
 unfoldable pub columnAt : ℕ → List ℤ → ℕ → Column
-columnAt n cells i = 1ℤ ∷ map (λ k. getD cells (3 * i + k) 0ℤ) (countFrom 0 (n - 1))
+columnAt n cells i = 1ℤ ∷ map (λ k. getD cells (stride * i + k) 0ℤ) (countFrom 0 (n - 1))
 
 -- the columns of the simplex
 unfoldable pub simplexColumns : ℕ → List ℤ → List Column

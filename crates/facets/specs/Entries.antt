@@ -6,11 +6,12 @@ use lib.IntN.{ℤ}
 use lib.ListN.{length, getD}
 use Rattle.exact.specs.Int.{0ℤ, 1ℤ}
 use Rattle.exact.specs.Size.{Size}
+use Rattle.facets.specs.Cells.{stride}
 
 -- the entry of a row at vertex v: 1 in row 0, then the values
 unfoldable pub entryAt : List ℤ → ℕ → ℕ → ℤ
 entryAt cells zero v = 1ℤ
-entryAt cells (suc k) v = getD cells (3 * v + k) 0ℤ
+entryAt cells (suc k) v = getD cells (stride * v + k) 0ℤ
 
 -- fifteen cells, each at most m in size
 pub record CellsWithin (m : ℕ) (cells : List ℤ) : Type 0 where
