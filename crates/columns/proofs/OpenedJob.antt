@@ -14,13 +14,11 @@ use Rattle.paper.specs.Limits.{dimensionOk, readableLimit}
 use Rattle.paper.specs.Job.{dimension, body}
 use Rattle.paper.specs.Values.{readableSum, valueOf, fieldOf}
 use Rattle.paper.proofs.Tests.{dimension-range}
-use Rattle.paper.proofs.Opens.{Opens, opens}
 use Rattle.paper.proofs.Bodies.{box-length, terms-high}
-use Rattle.bits.specs.Axes.{Axes}
-use Rattle.bits.proofs.EachDimension.{dimension-axes}
 use Rattle.places.specs.declared.Vertex.{Vertex}
 use Rattle.places.specs.Held.{vertexAs}
 use Rattle.job.specs.OpenJob.{JobOf}
+use Rattle.job.proofs.OpenJob.{job-opens, job-dimension, job-axes}
 use Rattle.values.specs.Box.{Near}
 use Rattle.values.specs.Sums.{Polynomial}
 use Rattle.values.proofs.Inside.{inside-near}
@@ -32,34 +30,25 @@ unfolding readableLimit entryLimit
 readable-entry n d = rw (le-leb n 3 (dimension-range n d .high)) (lit≤ tt)
 
 module _ {n : ℕ} {s : List ℕ} (j : JobOf n s) where
-  opened : Opens s
-  opened = opens s (j .opens)
-
-  pub job-dimension : dimensionOk n ≡ true
-  job-dimension = rw (j .dimension) (opened .dimensions)
-
-  pub job-axes : Axes n
-  job-axes = dimension-axes n job-dimension
-
   -- the box, under another name for its bytes
   pub job-box : {b : List ℕ} → b ≡ body s 0 → length b ≡ 4 * n
-  job-box e = rw (e, j .dimension) (box-length opened)
+  job-box e = rw (e, j .dimension) (box-length (job-opens j))
 
   pub job-polynomial : {b : List ℕ} (k : ℕ) → 0 < k → k < n → b ≡ body s k → Polynomial n b
   job-polynomial k l u e =
       let inner : k < dimension s = subst (λ (m : ℕ). k < m) (j .dimension) u in
       rw e (record {
-        axes = job-axes;
-        terms = rw (j .dimension) (opened .polynomial k l inner);
-        count = rw (j .dimension) (terms-high opened k l inner);
+        axes = job-axes j;
+        terms = rw (j .dimension) (job-opens j .polynomial k l inner);
+        count = rw (j .dimension) (terms-high (job-opens j) k l inner);
       })
 
   pub job-near : (v : Vertex) → fieldOf s .inBox (vertexAs n v) ≡ true → Near n v
   unfolding fieldOf
-  job-near v h = inside-near n (body s 0) v job-axes (rw (j .dimension) (opened .box)) h
+  job-near v h = inside-near n (body s 0) v (job-axes j) (rw (j .dimension) (job-opens j .box)) h
 
   pub job-value : (z : ℤ) → readableSum n z ≡ true → Size (entryLimit n) (valueOf z)
   unfolding readableSum valueOf
   job-value z h =
       let s : Size (readableLimit n) z = record { size = leb-true _ _ h } in
-      size-weaken s (readable-entry n job-dimension)
+      size-weaken s (readable-entry n (job-dimension j))

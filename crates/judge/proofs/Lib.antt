@@ -1,5 +1,4 @@
 -- Laws that the functions of this crate cite, a file for each idea.
-pub mod OpenJob
 pub mod PlaceForm
 pub mod PlaceFound
 pub mod PlaceCrossed

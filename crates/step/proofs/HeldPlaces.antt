@@ -26,7 +26,7 @@ use Rattle.places.proofs.PlaceStored.{coordinate-short}
 use Rattle.job.specs.OpenJob.{JobOf}
 use Rattle.values.specs.Moves.{moveLimit}
 use Rattle.values.proofs.Moves.{vertex-wider}
-use Rattle.columns.proofs.OpenedJob.{job-axes}
+use Rattle.job.proofs.OpenJob.{job-axes}
 use Rattle.orders.specs.Table.{InTable, orderAt}
 use Rattle.orders.specs.Corners.{CornerIs, LowIs}
 use Rattle.orders.proofs.MovedCorners.{first-coordinates, corner-rest, low-rest, size-parts}

@@ -23,7 +23,7 @@ use Rattle.places.specs.declared.Vertex.{Vertex}
 use Rattle.places.specs.declared.HeldPlace.{HeldPlace}
 use Rattle.facets.specs.Cells.{simplexColumns}
 use Rattle.columns.specs.Found.{stopNumber, SimplexFound}
-use Rattle.columns.proofs.OpenedJob.{job-axes}
+use Rattle.job.proofs.OpenJob.{job-axes}
 use Rattle.orders.specs.Table.{orderAt}
 use Rattle.orders.specs.Corners.{CornerIs, PlaceIs}
 use Rattle.simplices.specs.Search.{Found}

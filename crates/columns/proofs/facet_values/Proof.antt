@@ -1,7 +1,7 @@
 -- `columns::facet_values` meets its contract: the facet's vertices are the lowest and its shifts by the masks.
 use native.Mathlib.Omega.{arith}
 use Rattle.places.specs.Held.{facetAs}
-use Rattle.columns.proofs.OpenedJob.{job-axes}
+use Rattle.job.proofs.OpenJob.{job-axes}
 use Rattle.columns.proofs.FacetColumns.{facet-list, facet-outside, facet-unreadable, facet-found}
 use Rattle.columns.proofs.facet_values.Statement.{statement}
 use Rattle.columns.proofs.facet_values.Tie as tie

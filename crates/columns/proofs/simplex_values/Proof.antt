@@ -1,6 +1,6 @@
 -- `columns::simplex_values` meets its contract: the vertices are the corner and its shifts by the masks.
 use native.Mathlib.Omega.{arith}
-use Rattle.columns.proofs.OpenedJob.{job-axes}
+use Rattle.job.proofs.OpenJob.{job-axes}
 use Rattle.columns.proofs.FacetColumns.{simplex-list, simplex-found}
 use Rattle.columns.proofs.simplex_values.Statement.{statement}
 use Rattle.columns.proofs.simplex_values.Tie as tie

@@ -3,9 +3,8 @@ use borrow.Author.Needs.{needs}
 use mathlib.Core.Path.{sym, _∙_}
 use mathlib.Core.Bool.{true, false}
 use Rattle.paper.specs.Answers.{judgedAs}
-use Rattle.columns.proofs.OpenedJob.{job-axes}
+use Rattle.job.proofs.OpenJob.{job-axes, opened}
 use Rattle.columns.proofs.FacetColumns.{zero-cells}
-use Rattle.judge.proofs.OpenJob.{opened}
 use Rattle.judge.proofs.JudgeAnswers.{judge-refused, judge-unopened, judge-answered}
 use Rattle.judge.proofs.judge.Statement.{statement}
 use Rattle.judge.proofs.judge.Tie as tie

@@ -1,6 +1,6 @@
 -- `judge::point_in` meets its contract: the place's refusal, or its point.
 use Rattle.paper.specs.Answers.{pointedAs}
-use Rattle.columns.proofs.OpenedJob.{job-axes}
+use Rattle.job.proofs.OpenJob.{job-axes}
 use Rattle.columns.proofs.FacetColumns.{zero-cells}
 use Rattle.judge.proofs.PointAnswers.{point-refused, point-answered, low-size}
 use Rattle.judge.proofs.point_in.Statement.{statement}

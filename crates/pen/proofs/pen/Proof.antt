@@ -4,8 +4,7 @@ use mathlib.Core.Path.{refl, sym, _∙_}
 use native.Mathlib.Omega.{arith}
 use borrow.Author.Needs.{needs}
 use Rattle.paper.specs.Pen.{moveAs, pennedAs}
-use Rattle.columns.proofs.OpenedJob.{job-axes}
-use Rattle.judge.proofs.OpenJob.{opened}
+use Rattle.job.proofs.OpenJob.{job-axes, opened}
 use Rattle.pen.proofs.PenAnswers.{place-ends, pen-not-opened, pen-uneven, pen-closes, pen-past, pen-at}
 use Rattle.pen.proofs.pen.Statement.{statement}
 use Rattle.pen.proofs.pen.Tie as tie

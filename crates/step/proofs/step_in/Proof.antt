@@ -3,7 +3,7 @@ use borrow.Author.Needs.{needs}
 use mathlib.Core.Path.{subst}
 use Rattle.paper.specs.Answers.{steppedAs, paddedNext}
 use Rattle.places.specs.Held.{placeAs}
-use Rattle.columns.proofs.OpenedJob.{job-axes}
+use Rattle.job.proofs.OpenJob.{job-axes}
 use Rattle.columns.proofs.FacetColumns.{zero-cells}
 use Rattle.step.specs.Ahead.{AheadIs}
 use Rattle.step.proofs.CrossingHeld.{found-held}

@@ -1,6 +1,6 @@
 -- `trace::trace_in` meets its contract: refused as the paper's chain says, or the walk from the job's start.
 use borrow.Author.Needs.{needs}
-use Rattle.columns.proofs.OpenedJob.{job-axes}
+use Rattle.job.proofs.OpenJob.{job-axes}
 use Rattle.columns.proofs.FacetColumns.{zero-cells}
 use Rattle.step.proofs.CrossingHeld.{found-held}
 use Rattle.trace.proofs.TraceAnswers.{at-start, start-refused, start-answered}

@@ -3,7 +3,7 @@ use Prim.Native.Nat.{_+_, _≤_, _-_}
 use native.Mathlib.Omega.{arith}
 use borrow.Author.Tests.{not-true, not-false}
 use Rattle.places.specs.Held.{vertexAs}
-use Rattle.columns.proofs.OpenedJob.{job-axes}
+use Rattle.job.proofs.OpenJob.{job-axes}
 use Rattle.columns.proofs.PutValues.{Putting, putting-none, putting-next, putting-fails, putting-all}
 use Rattle.columns.proofs.field.put_values.Statement.{statement}
 use Rattle.columns.proofs.field.put_values.Tie as tie

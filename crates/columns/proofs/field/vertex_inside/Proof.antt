@@ -4,7 +4,8 @@ use mathlib.Core.List.{List}
 use Prim.Native.Nat.{ℕ}
 use Rattle.paper.specs.Values.{insideFrom, fieldOf}
 use Rattle.places.specs.Held.{vertexAs}
-use Rattle.columns.proofs.OpenedJob.{job-axes, job-box}
+use Rattle.job.proofs.OpenJob.{job-axes}
+use Rattle.columns.proofs.OpenedJob.{job-box}
 use borrow.Author.Needs.{needs}
 use Rattle.columns.proofs.field.vertex_inside.Statement.{statement}
 use Rattle.columns.proofs.field.vertex_inside.Tie as tie

@@ -1,5 +1,5 @@
 -- `step::ahead::onward` meets its contract: the simplex found is the one on the place's side, and its exit leads on.
-use Rattle.columns.proofs.OpenedJob.{job-dimension, job-axes}
+use Rattle.job.proofs.OpenJob.{job-dimension, job-axes}
 use Rattle.columns.proofs.FacetColumns.{zero-cells}
 use Rattle.step.proofs.HeldPlaces.{held-form, low-moves, corner-moves}
 use Rattle.step.proofs.SimplexStep.{no-stop, at-edge, at-limit, way-inside, leads}

@@ -3,7 +3,7 @@ use borrow.Author.Needs.{needs}
 use mathlib.Core.Path.{sym, subst, _∙_}
 use Rattle.places.specs.Held.{placeAs}
 use Rattle.step.specs.Ahead.{AheadIs}
-use Rattle.columns.proofs.OpenedJob.{job-axes}
+use Rattle.job.proofs.OpenJob.{job-axes}
 use Rattle.step.proofs.HeldPlaces.{held-fits}
 use Rattle.trace.proofs.UnderWay.{ends-at-edge, ends-at-limit, ends-in-loop, goes-on}
 use Rattle.trace.proofs.walks.visit.Statement.{statement}
