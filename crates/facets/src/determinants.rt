@@ -7,20 +7,9 @@ ghost use Rattle.exact.specs.Int.{_⊗_};
 ghost use Rattle.exact.specs.Size.{Is};
 ghost use Rattle.exact.specs.Det.{det, rowsFrom, determinant};
 ghost use Rattle.exact.specs.Crossed.{remove, coefficient};
-ghost use Rattle.exact.specs.Minors.{skip};
 ghost use Rattle.facets.specs.Cells.{Cells, entryLimit, facetColumns};
 ghost use Rattle.facets.specs.Entries.{entryAt, CellsWithin, productLimit, coefficientLimit, determinantLimit};
-
-// The place in the whole list of element i of the list without element p.
-fn skip(p: usize, i: usize) -> usize
-    requires { ⌜ i < 5 ⌝ }
-    ensures { λ r. ⌜ (r ≡ skip p i) × (r ≤ i + 1) ⌝ }
-{
-    if i < p {
-        return i;
-    }
-    i + 1
-}
+use bits::index::skip;
 
 // The entry of a row in the column of vertex v: 1 in row 0, then the values.
 fn entry(cells: &[i64; 15], row: usize, v: usize) -> i64

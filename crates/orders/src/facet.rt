@@ -2,10 +2,10 @@
 
 ghost use mathlib.Core.Path.{_≡_};
 ghost use Prim.Native.Nat.{_≤_, _<_};
-ghost use Rattle.exact.specs.Minors.{skip};
 ghost use Rattle.orders.specs.Table.{InTable, axisAt};
 ghost use Rattle.orders.specs.Facets.{facetMask, sideAt};
 use crate::table;
+use bits::index::skip;
 use bits::masks;
 
 // The axis that leads from vertex k to the next: the only one of the difference.
@@ -14,17 +14,6 @@ fn added_axis(n: usize, row: usize, k: usize) -> usize
     ensures { λ r. ⌜ r ≡ axisAt n row k ⌝ }
 {
     masks::axis_of(table::vertex_mask(n, row, k + 1) - table::vertex_mask(n, row, k))
-}
-
-// Vertex i of the facet without vertex `out`, as a vertex of the simplex.
-fn skip(out: usize, i: usize) -> usize
-    requires { ⌜ i < 4 ⌝ }
-    ensures { λ r. ⌜ r ≡ skip out i ⌝ }
-{
-    if i < out {
-        return i;
-    }
-    i + 1
 }
 
 // Mask i of the facet without vertex `out`: the difference of its vertex i from its lowest; 0 from i = n on.

@@ -32,12 +32,12 @@ first-is :
     (c : tie.After-vertex-mask2)
     → c .before .before .vertex-mask .result
     ≡ vertexMask (orderAt (c .before .before .before .before .before .args .n) (c .before .before .before .before .before .args .row)) (skip (c .before .before .before .before .before .args .out) (c .before .before .before .before .before .args .i))
-first-is c = c .before .before .vertex-mask .ensures ∙ ap (vertexMask _) (c .before .before .before .skip .ensures)
+first-is c = c .before .before .vertex-mask .ensures ∙ ap (vertexMask _) (c .before .before .before .skip .ensures .0)
 
 low-is :
     (c : tie.After-vertex-mask2)
     → c .vertex-mask2 .result ≡ vertexMask (orderAt (c .before .before .before .before .before .args .n) (c .before .before .before .before .before .args .row)) (skip (c .before .before .before .before .before .args .out) 0)
-low-is c = c .vertex-mask2 .ensures ∙ ap (vertexMask _) (c .before .skip2 .ensures)
+low-is c = c .vertex-mask2 .ensures ∙ ap (vertexMask _) (c .before .skip2 .ensures .0)
 
 sub-result : tie.Need-sub-result
 sub-result c =

@@ -1,10 +1,10 @@
--- `facets::determinants::skip` meets its contract: below the element left out an index stays, from it on it is one further.
+-- `bits::index::skip` meets its contract: below the element left out an index stays, from it on it is one further.
 use mathlib.Core.Path.{sym}
 use native.Mathlib.Omega.{arith}
 use Rattle.exact.proofs.Position.{skip-below, skip-above}
 use borrow.Author.Needs.{needs}
-use Rattle.facets.proofs.determinants.skip.Statement.{statement}
-use Rattle.facets.proofs.determinants.skip.Tie as tie
+use Rattle.bits.proofs.index.skip.Statement.{statement}
+use Rattle.bits.proofs.index.skip.Tie as tie
 
 returns : tie.Need-returns
 returns c = (sym (skip-below (c .before .args .p) (c .before .args .i) (c .if1 .taken)), omega arith)
