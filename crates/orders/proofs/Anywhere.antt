@@ -36,7 +36,7 @@ low-corner v (a ∷ o) zero = up-down a v
 low-corner v (a ∷ o) (suc i) = refl
 
 -- the side is 0 or 1
-pub side-under : (c : Grid.Vertex) (o : List ℕ) (i : ℕ) → placeAt c o i .side < 2
+side-under : (c : Grid.Vertex) (o : List ℕ) (i : ℕ) → placeAt c o i .side < 2
 unfolding placeAt
 side-under c [] i = omega arith
 side-under c (a ∷ o) zero = omega arith

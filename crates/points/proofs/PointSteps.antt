@@ -98,8 +98,8 @@ module _ (n : ℕ) (cs : List Column) (ms : List ℕ) (v : Vertex) where
 
   pub point-three :
       VertexSize lowLimit v
-      → {a b c : ℤ} → Is stepsLimit (stepsOn 0 (back (v .x))) a → Is stepsLimit (stepsOn 1 (back (v .y))) b → Is stepsLimit (stepsOn 2 (back (v .z))) c
-      → Axes n → (n ≡ 2 → ⊥)
+      → {a b c : ℤ} → Is stepsLimit (stepsOn 0 (back (v .x))) a → Is stepsLimit (stepsOn 1 (back (v .y))) b
+      → Is stepsLimit (stepsOn 2 (back (v .z))) c → Axes n → (n ≡ 2 → ⊥)
       → _≡_ {A = List ℤ} (back a ∷ back b ∷ back c ∷ []) (padded 0ℤ 3 (pointFrom n cs ms 0 (vertexAs n v)))
   point-three s a b c axes d =
       ap₂ (λ s t. s ∷ t) (axis-steps 0 (s .x) a) (ap₂ (λ s t. s ∷ t ∷ []) (axis-steps 1 (s .y) b) (axis-steps 2 (s .z) c))

@@ -109,13 +109,13 @@ vertices-again c =
     ⊎-elim
     (λ w. absurd (true≢false (sym (not-false (c .before .loop-test .with) (c .if4 .left)) ∙ w .1 ∙ loop .inv .0)))
     (λ w.
-    let found = found-is (record { before = record { before = record { before = c .before .before; loop-test = w .0 }; coefficient = w .1 }; sign-of2 = w .2 }) in (
+    let in-loop : tie.In-loop Inv-loop μ-loop Inv-vertices μ-vertices = record { before = c .before .before; loop-test = w .0 } in
+    let found = found-is (record { before = record { before = in-loop; coefficient = w .1 }; sign-of2 = w .2 }) in (
       w .5,
       (
         omega arith,
         vertices .inv .1 .1
-            ∙ vertex-with _ _ (vertices .i) (loop .j) (vertices-test .taken) (inside (record { before = c .before .before; loop-test = w .0 }))
-            (loop .inv .1 .1)
+            ∙ vertex-with _ _ (vertices .i) (loop .j) (vertices-test .taken) (inside in-loop) (loop .inv .1 .1)
             (λ h. w .3 .taken (found ∙ h)) (sym found ∙ w .4 .left ∙ side-is (c .before .before .before .before .before .before)),
       ),
     ))
