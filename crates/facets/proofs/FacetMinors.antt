@@ -159,69 +159,76 @@ module _ (n : ℕ) (cells : List ℤ) (h : Cells n cells) (out i j : ℕ) (hi : 
       (subst (λ (k : ℕ). i < k) (sym (facet-length n cells out ho)) hi)))
       (limits-fit n (h .axes))
 
+-- what `minor` gives in each dimension, from the indices that it has computed
+module _ {n : ℕ} {cells : List ℤ} {out i j : ℕ} (pre : Cells n cells × ((out ≤ n) × ((i < n) × (j < n)))) where
   given : {v : ℤ} → v ≡ facetMinor n cells out i j → Is coefficientLimit (facetMinor n cells out i j) (back v)
-  given e = holds-call (record { is = e; size = minor-size }) (lit≤ tt)
+  given e = holds-call (record { is = e; size = minor-size n cells (pre .0) out i j (pre .1 .1 .0) (pre .1 .1 .1) }) (lit≤ tt)
 
-  -- what `minor` gives in each dimension, from the indices that it has computed
-  module _ (ho : out ≤ n) {r x a : ℕ} (er : r ≡ skip j 0) (ex : x ≡ skip i 0) (ea : a ≡ skip out x) where
+  module _ {r x a : ℕ} (er : r ≡ skip j 0) (ex : x ≡ skip i 0) (ea : a ≡ skip out x) where
     pub given-one : {v : ℤ} → n ≡ 2 → v ≡ entryAt cells r a → Is coefficientLimit (facetMinor n cells out i j) (back v)
-    given-one e v = given (v ∙ rw (er, ea, ex) (sym (minor-one n cells out i j ho hi hj e)))
+    given-one e v = given (v ∙ rw (er, ea, ex) (sym (minor-one n cells out i j (pre .1 .0) (pre .1 .1 .0) (pre .1 .1 .1) e)))
 
     module _ {s y b : ℕ} (es : s ≡ skip j 1) (ey : y ≡ skip i 1) (eb : b ≡ skip out y) where
       pub given-two :
-          {v : ℤ} → n ≡ 3 → v ≡ det (entryAt cells r ∷ entryAt cells s ∷ []) (a ∷ b ∷ []) → Is coefficientLimit (facetMinor n cells out i j) (back v)
-      given-two e v = given (v ∙ rw (er, ea, ex, es, eb, ey) (sym (minor-two n cells out i j ho hi hj e)))
+          {v : ℤ} → n ≡ 3 → v ≡ det (entryAt cells r ∷ entryAt cells s ∷ []) (a ∷ b ∷ [])
+          → Is coefficientLimit (facetMinor n cells out i j) (back v)
+      given-two e v = given (v ∙ rw (er, ea, ex, es, eb, ey) (sym (minor-two n cells out i j (pre .1 .0) (pre .1 .1 .0) (pre .1 .1 .1) e)))
 
       pub given-three :
-          {v : ℤ} {t z c : ℕ} → t ≡ skip j 2 → z ≡ skip i 2 → c ≡ skip out z → n ≡ 4
+          {v : ℤ} {t z c : ℕ} → t ≡ skip j 2 → z ≡ skip i 2 → c ≡ skip out z → (n ≡ 2 → ⊥) → (n ≡ 3 → ⊥)
           → v ≡ det (entryAt cells r ∷ entryAt cells s ∷ entryAt cells t ∷ []) (a ∷ b ∷ c ∷ [])
           → Is coefficientLimit (facetMinor n cells out i j) (back v)
-      given-three et ez ec e v =
-          given (v ∙ rw (er, ea, ex, es, eb, ey, et, ec, ez) (sym (minor-three n cells out i j ho hi hj e)))
+      given-three et ez ec not-two not-three v =
+          let four : n ≡ 4 = omega (arith, pre .0 .axes .low, pre .0 .axes .high, not-two, not-three) in
+          given (v ∙ rw (er, ea, ex, es, eb, ey, et, ec, ez) (sym (minor-three n cells out i j (pre .1 .0) (pre .1 .1 .0) (pre .1 .1 .1) four)))
 
 -- ---- the coefficient and D
 pub weights-none : (f : ℕ → ℤ) → Is (0 * coefficientLimit) (sumTo 0 f) (pos 0)
 unfolding sumTo
 weights-none f = record { is = refl; size = record { size = lit≤ tt } }
 
-module _ (n : ℕ) (cells : List ℤ) (h : Cells n cells) (out : ℕ) (ho : out ≤ n) where
-  -- the cofactor's sign
-  module _ (i j : ℕ) (hi : i < n) (hj : j < n) (m : ℤ) (e : Is coefficientLimit (facetMinor n cells out i j) m) where
-    is-cofactor : coefficient n (facetColumns n cells out) i j ≡ alternate (i + j) (facetMinor n cells out i j)
-    is-cofactor =
-        coefficient-minor n (facetColumns n cells out) i j (subst (λ (k : ℕ). i < k) (sym (facet-length n cells out ho)) hi) hj
-        ∙ alternate-add i j (facetMinor n cells out i j)
+-- the cofactor's sign
+module _
+    {n : ℕ} {cells : List ℤ} {out i j : ℕ} (pre : Cells n cells × ((out ≤ n) × ((i < n) × (j < n))))
+    {m : ℤ} (e : Is coefficientLimit (facetMinor n cells out i j) m) where
+  is-cofactor : coefficient n (facetColumns n cells out) i j ≡ alternate (i + j) (facetMinor n cells out i j)
+  is-cofactor =
+      coefficient-minor n (facetColumns n cells out) i j (subst (λ (k : ℕ). i < k) (sym (facet-length n cells out (pre .1 .0))) (pre .1 .1 .0))
+      (pre .1 .1 .1)
+      ∙ alternate-add i j (facetMinor n cells out i j)
 
-    pub cofactor-even : (i + j) % 2 ≡ 0 → Is coefficientLimit (coefficient n (facetColumns n cells out) i j) (back m)
-    cofactor-even even =
-        subst (λ z. Is coefficientLimit z (back m)) (sym (is-cofactor ∙ alternate-even (i + j) (facetMinor n cells out i j) even)) (holds-call e (lit≤ tt))
+  pub cofactor-even : (i + j) % 2 ≡ 0 → Is coefficientLimit (coefficient n (facetColumns n cells out) i j) (back m)
+  cofactor-even even =
+      subst (λ z. Is coefficientLimit z (back m)) (sym (is-cofactor ∙ alternate-even (i + j) (facetMinor n cells out i j) even)) (holds-call e (lit≤ tt))
 
-    nought : Is 0 0ℤ (pos 0)
-    nought = record { is = refl; size = size-pos 0 }
+  nought : Is 0 0ℤ (pos 0)
+  nought = record { is = refl; size = size-pos 0 }
 
-    pub opposite-fits : SFits w64 (pos 0 -ℤ back m)
-    opposite-fits = fits-sub nought (holds-call e (lit≤ tt)) (lit≤ tt)
+  pub opposite-fits : SFits w64 (pos 0 -ℤ back m)
+  opposite-fits = fits-sub nought (holds-call e (lit≤ tt)) (lit≤ tt)
 
-    pub cofactor-odd :
-        ((i + j) % 2 ≡ 0 → ⊥) → Is coefficientLimit (coefficient n (facetColumns n cells out) i j) (back (pos 0 -ℤ back m))
-    cofactor-odd odd = record {
-      is = holds-sub nought (holds-call e (lit≤ tt)) (lit≤ tt) .is
-          ∙ sub-eq 0ℤ (facetMinor n cells out i j) ∙ zero-add (neg (facetMinor n cells out i j))
-          ∙ sym (is-cofactor ∙ alternate-odd (i + j) (facetMinor n cells out i j) odd);
-      size = coefficient-size n cells h out i j hi hj ho;
-    }
+  pub cofactor-odd :
+      ((i + j) % 2 ≡ 0 → ⊥) → Is coefficientLimit (coefficient n (facetColumns n cells out) i j) (back (pos 0 -ℤ back m))
+  cofactor-odd odd = record {
+    is = holds-sub nought (holds-call e (lit≤ tt)) (lit≤ tt) .is
+        ∙ sub-eq 0ℤ (facetMinor n cells out i j) ∙ zero-add (neg (facetMinor n cells out i j))
+        ∙ sym (is-cofactor ∙ alternate-odd (i + j) (facetMinor n cells out i j) odd);
+    size = coefficient-size n cells (pre .0) out i j (pre .1 .1 .0) (pre .1 .1 .1) (pre .1 .0);
+  }
 
+module _ {n : ℕ} {cells : List ℤ} {out : ℕ} (pre : Cells n cells × (out ≤ n)) where
   -- the coefficient of power 0 at a vertex
   abbrev weight : ℕ → ℤ
   weight i = coefficient n (facetColumns n cells out) i 0
 
   -- the sum of the first k of them
   pub weights-next :
-      (k : ℕ) (sum z : ℤ) → k < n → Is (k * coefficientLimit) (sumTo k weight) sum → Is coefficientLimit (coefficient n (facetColumns n cells out) k 0) z
+      {k : ℕ} {sum z : ℤ} → k < n → Is (k * coefficientLimit) (sumTo k weight) sum
+      → Is coefficientLimit (coefficient n (facetColumns n cells out) k 0) z
       → SFits w64 (sum +ℤ back z) × Is ((k + 1) * coefficientLimit) (sumTo (k + 1) weight) (back (sum +ℤ back z))
-  weights-next k sum z l s e =
+  weights-next {k} {sum} {z} l s e =
       let next : suc k ≡ k + 1 = omega arith in
-      let room : k * coefficientLimit + coefficientLimit ≤ 2 ^ 63 - 1 = omega (arith, h .axes .high) in
+      let room : k * coefficientLimit + coefficientLimit ≤ 2 ^ 63 - 1 = omega (arith, pre .0 .axes .high) in
       let w = holds-add s (holds-call e (lit≤ tt)) room in (
         fits-add s (holds-call e (lit≤ tt)) room,
         record {
@@ -231,12 +238,14 @@ module _ (n : ℕ) (cells : List ℤ) (h : Cells n cells) (out : ℕ) (ho : out 
       )
 
   pub weights-all :
-      (k : ℕ) (sum : ℤ) → k ≡ n → Is (k * coefficientLimit) (sumTo k weight) sum
+      {k : ℕ} {sum : ℤ} → k ≡ n → Is (k * coefficientLimit) (sumTo k weight) sum
       → Is determinantLimit (determinant n (facetColumns n cells out)) sum
-  weights-all k sum e s =
-      let rest : suc (n - 1) ≡ n = omega (arith, h .axes .low) in
-      let whole : sumTo k weight ≡ determinant n (facetColumns n cells out) =
-      ap (λ m. sumTo m weight) (e ∙ sym (facet-length n cells out ho))
-      ∙ subst (λ m. sumTo (length (facetColumns n cells out)) (λ i. coefficient m (facetColumns n cells out) i 0) ≡ determinant m (facetColumns n cells out)) rest
-      (weights-sum (n - 1) (facetColumns n cells out) (λ i l. facet-ones n cells out ho i (subst (λ (m : ℕ). i < m) (facet-length n cells out ho) l))) in
-      record { is = s .is ∙ whole; size = subst (Size determinantLimit) whole (size-weaken (s .size) (omega (arith, h .axes .high))) }
+  weights-all {k} {sum} e s =
+      let columns = facetColumns n cells out in
+      let count = facet-length n cells out (pre .1) in
+      let rest : suc (n - 1) ≡ n = omega (arith, pre .0 .axes .low) in
+      let whole : sumTo k weight ≡ determinant n columns =
+      ap (λ m. sumTo m weight) (e ∙ sym count)
+      ∙ subst (λ m. sumTo (length columns) (λ i. coefficient m columns i 0) ≡ determinant m columns) rest
+      (weights-sum (n - 1) columns (λ i l. facet-ones n cells out (pre .1) i (subst (λ (m : ℕ). i < m) count l))) in
+      record { is = s .is ∙ whole; size = subst (Size determinantLimit) whole (size-weaken (s .size) (omega (arith, pre .0 .axes .high))) }

@@ -36,11 +36,14 @@ low-corner v (a ∷ o) zero = up-down a v
 low-corner v (a ∷ o) (suc i) = refl
 
 -- the side is 0 or 1
-pub side-under : (c : Grid.Vertex) (o : List ℕ) (i : ℕ) → placeAt c o i .side < 2
+side-under : (c : Grid.Vertex) (o : List ℕ) (i : ℕ) → placeAt c o i .side < 2
 unfolding placeAt
 side-under c [] i = omega arith
 side-under c (a ∷ o) zero = omega arith
 side-under c (a ∷ o) (suc i) = side-of-under i (a ∷ o)
+
+pub side-of-place : (c : Grid.Vertex) (o : List ℕ) (i : ℕ) {p : Place} → p ≡ placeAt c o i → p .side < 2
+side-of-place c o i e = omega (arith, ap (λ q. q .side) e, side-under c o i)
 
 pub place-is :
     (n : ℕ) (corner : Vertex) (row out : ℕ) (r : HeldPlace) → InTable n row → out ≤ n

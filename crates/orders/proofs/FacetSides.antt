@@ -29,15 +29,15 @@ rightSide n row out = eqb (sideAt n row out) (sideRule n row out)
 between : ℕ → ℕ → ℕ → Bool
 between n row out = flatAt n row out || (ltb 0 out && ltb out n)
 
-module _ (n row out : ℕ) (h : InTable n row) (l : out ≤ n) where
+module _ {n row out : ℕ} (pre : InTable n row × (out ≤ n)) where
   pub side-is : sideAt n row out ≡ sideRule n row out
   unfolding rightSide sideAt facetMask skip vertexMask axisAt orderAt orders placeAt masksFrom sideOf ones onesIn allFrom
-  side-is = eqb-true (sideAt n row out) (sideRule n row out) (passes rightSide refl refl refl n row out h l)
+  side-is = eqb-true (sideAt n row out) (sideRule n row out) (passes rightSide refl refl refl n row out (pre .0) (pre .1))
 
   -- a bent facet leaves out a vertex between the first and the last
   lies-between : flatAt n row out ≡ false → (ltb 0 out && ltb out n) ≡ true
   unfolding between facetMask skip vertexMask orderAt orders masksFrom ones onesIn allFrom
-  lies-between e = ap (λ t. t || (ltb 0 out && ltb out n)) (sym e) ∙ passes between refl refl refl n row out h l
+  lies-between e = ap (λ t. t || (ltb 0 out && ltb out n)) (sym e) ∙ passes between refl refl refl n row out (pre .0) (pre .1)
 
   pub bent-low : flatAt n row out ≡ false → 0 < out
   bent-low e = ltb-true 0 out (and-left (ltb 0 out) (ltb out n) (lies-between e))

@@ -31,12 +31,12 @@ share-is num d sh = sym (pos-natAbs (overSize num d) (yes-nonNeg (sh .least))) �
 pub share-most : (num d : ℤ) → Share num d → natAbs num ≤ natAbs d
 share-most num d sh = pos-le (natAbs num) (natAbs d) (subst (λ z. z ≤ℤ pos (natAbs d)) (share-is num d sh) (sh .most))
 
-module _ (low num d : ℤ) (sl : Size lowLimit low) (sd : Size denominatorLimit d) (sh : Share num d) where
+module _ {low num d : ℤ} (pre : Size lowLimit low × (Size denominatorLimit d × Share num d)) where
   most : natAbs num ≤ natAbs d
-  most = share-most num d sh
+  most = share-most num d (pre .1 .1)
 
   num-size : Size denominatorLimit num
-  num-size = record { size = omega (arith, most, sd .size) }
+  num-size = record { size = omega (arith, most, pre .1 .0 .size) }
 
   few : stepsPerUnit * natAbs num / natAbs d ≤ 1024
   unfolding stepsPerUnit
@@ -44,33 +44,33 @@ module _ (low num d : ℤ) (sl : Size lowLimit low) (sd : Size denominatorLimit 
 
   rounded : roundSteps (pos stepsPerUnit ⊗ overSize num d) (natAbs d) ≡ pos (stepsPerUnit * natAbs num / natAbs d)
   unfolding roundSteps _⊗_
-  rounded = ap (λ z. roundSteps (pos stepsPerUnit ⊗ z) (natAbs d)) (share-is num d sh)
+  rounded = ap (λ z. roundSteps (pos stepsPerUnit ⊗ z) (natAbs d)) (share-is num d (pre .1 .1))
 
   pub coordinate-size : Size stepsLimit (coordinateSteps low num d)
   unfolding coordinateSteps stepsPerUnit
   coordinate-size =
-      size-weaken (size-add (size-mul (size-pos 1024) sl) (subst (Size 1024) (sym rounded) (size-weaken (size-pos _) few))) (lit≤ tt)
+      size-weaken (size-add (size-mul (size-pos 1024) (pre .0)) (subst (Size 1024) (sym rounded) (size-weaken (size-pos _) few))) (lit≤ tt)
 
   -- ---- what the callees are asked
   pub asks-num : Size denominatorLimit (back num)
   asks-num = back-size num-size (lit≤ tt)
 
   pub asks-d : Size denominatorLimit (back d)
-  asks-d = back-size sd (lit≤ tt)
+  asks-d = back-size (pre .1 .0) (lit≤ tt)
 
-  module _ (a den : ℕ) (ea : a ≡ natAbs (back num)) (ed : den ≡ natAbs (back d)) where
+  module _ {a den : ℕ} (ea : a ≡ natAbs (back num)) (ed : den ≡ natAbs (back d)) where
     a-is : a ≡ natAbs num
     a-is = ea ∙ ap natAbs (back-is num-size (lit≤ tt))
 
     den-is : den ≡ natAbs d
-    den-is = ed ∙ ap natAbs (back-is sd (lit≤ tt))
+    den-is = ed ∙ ap natAbs (back-is (pre .1 .0) (lit≤ tt))
 
     pub asks-round : (0 < den) × ((a ≤ den) × (den ≤ denominatorLimit))
     asks-round =
-        rw (a-is, den-is) (sh .nonzero, (most, omega (arith, sd .size)))
+        rw (a-is, den-is) (pre .1 .1 .nonzero, (most, omega (arith, pre .1 .0 .size)))
 
     -- ---- what they give
-    module _ (r : ℕ) (er : r ≡ stepsPerUnit * a / den) where
+    module _ {r : ℕ} (er : r ≡ stepsPerUnit * a / den) where
       steps-is : r ≡ stepsPerUnit * natAbs num / natAbs d
       steps-is = er ∙ ap₂ (λ x y. stepsPerUnit * x / y) a-is den-is
 
@@ -84,13 +84,13 @@ module _ (low num d : ℤ) (sl : Size lowLimit low) (sd : Size denominatorLimit 
       unit-held = record { is = refl; size = size-pos 1024 }
 
       pub fits-low : SFits w64 (pos 1024 *ℤ back low)
-      fits-low = fits-mul unit-held (holds sl (lit≤ tt)) (lit≤ tt)
+      fits-low = fits-mul unit-held (holds (pre .0) (lit≤ tt)) (lit≤ tt)
 
       pub fits-coordinate : SFits w64 (back (pos 1024 *ℤ back low) +ℤ toZ w64 r)
-      fits-coordinate = fits-add (holds-mul unit-held (holds sl (lit≤ tt)) (lit≤ tt)) (holds steps-size (lit≤ tt)) (lit≤ tt)
+      fits-coordinate = fits-add (holds-mul unit-held (holds (pre .0) (lit≤ tt)) (lit≤ tt)) (holds steps-size (lit≤ tt)) (lit≤ tt)
 
       pub coordinate-is : back (back (pos 1024 *ℤ back low) +ℤ toZ w64 r) ≡ coordinateSteps low num d
       unfolding coordinateSteps stepsPerUnit
       coordinate-is =
-          holds-add (holds-mul unit-held (holds sl (lit≤ tt)) (lit≤ tt)) (holds steps-size (lit≤ tt)) (lit≤ tt) .is
+          holds-add (holds-mul unit-held (holds (pre .0) (lit≤ tt)) (lit≤ tt)) (holds steps-size (lit≤ tt)) (lit≤ tt) .is
           ∙ ap (λ z. pos 1024 ⊗ low ⊕ z) (ap pos steps-is ∙ sym rounded)

@@ -106,7 +106,9 @@ module _ (n : ℕ) (cs : List Column) (d : ℤ) (a : ℕ) where
   between i (m ∷ ms) h =
       let first = h i (omega arith) (omega arith) in
       let rest = between (suc i) ms (λ k low high. h k (omega arith) (omega arith)) in
-      rw (overSize-add (cond (hasAxis m a) (coefficient n cs i 0) 0ℤ) (weightSum n cs (suc i) ms a) d, overSize-add (coefficient n cs i 0) (sumFrom (λ k. coefficient n cs k 0) (suc i) (length ms)) d) (
+      let picked = overSize-add (cond (hasAxis m a) (weight i) 0ℤ) (weightSum n cs (suc i) ms a) d in
+      let all = overSize-add (weight i) (sumFrom weight (suc i) (length ms)) d in
+      rw (picked, all) (
         least-add _ _ (picked-least (hasAxis m a) (coefficient n cs i 0) first) (rest .0),
         add-le-add _ _ _ _ (picked-most (hasAxis m a) (coefficient n cs i 0) first) (rest .1),
       )

@@ -92,19 +92,24 @@ pub record Summed (n : ℕ) (cs : List Column) (p : HeldPlace) (axis i : ℕ) (s
   pub total : sum ⊕ weightSum n cs i (drop (i - 1) (masksAs n p)) axis ≡ weightSum n cs 1 (masksAs n p) axis
   pub size : Size ((i - 1) * coefficientLimit) sum
 
-module _ (n : ℕ) (a : Axes n) (cs : List Column) (p : HeldPlace) (axis : ℕ) where
+module _ {n : ℕ} (a : Axes n) (cs : List Column) (p : HeldPlace) (axis : ℕ) where
   pub summed-none : Summed n cs p axis 1 (pos 0)
   summed-none = record { low = omega arith; high = omega (arith, a .low); total = zero-add _; size = record { size = lit≤ tt } }
 
-  module _ (i : ℕ) (sum z : ℤ) (l : i < n) (s : Summed n cs p axis i sum) (e : Is coefficientLimit (weightAt n cs i (getD (masksAs 4 p) (i - 1) 0) axis) z) where
+  module _
+      {i : ℕ} {sum z : ℤ} (l : i < n) (s : Summed n cs p axis i sum)
+      {m : ℕ} (is-mask : m ≡ getD (masksAs 4 p) (i - 1) 0) (given : Is coefficientLimit (weightAt n cs i m axis) z) where
+    weight-is : Is coefficientLimit (weightAt n cs i (getD (masksAs 4 p) (i - 1) 0) axis) z
+    weight-is = subst (λ m. Is coefficientLimit (weightAt n cs i m axis) z) is-mask given
+
     room : (i - 1) * coefficientLimit + coefficientLimit ≤ 2 ^ 63 - 1
     room = omega (arith, a .high)
 
     added : Is ((i - 1) * coefficientLimit + coefficientLimit) (sum ⊕ weightAt n cs i (getD (masksAs 4 p) (i - 1) 0) axis) (back (sum +ℤ back z))
-    added = holds-add (record { is = refl; size = s .size }) (holds-call e (lit≤ tt)) room
+    added = holds-add (record { is = refl; size = s .size }) (holds-call weight-is (lit≤ tt)) room
 
     pub summed-fits : SFits w64 (sum +ℤ back z)
-    summed-fits = fits-add (record { is = refl; size = s .size }) (holds-call e (lit≤ tt)) room
+    summed-fits = fits-add (record { is = refl; size = s .size }) (holds-call weight-is (lit≤ tt)) room
 
     pub summed-next : Summed n cs p axis (i + 1) (back (sum +ℤ back z))
     unfolding weightSum
@@ -124,9 +129,9 @@ module _ (n : ℕ) (a : Axes n) (cs : List Column) (p : HeldPlace) (axis : ℕ) 
           size = subst (Size ((i + 1 - 1) * coefficientLimit)) (sym (added .is)) (size-weaken (added .size) (omega arith));
         }
 
-  pub summed-all : (i : ℕ) (sum : ℤ) → i ≡ n → Summed n cs p axis i sum → Is determinantLimit (weightSum n cs 1 (masksAs n p) axis) sum
+  pub summed-all : {i : ℕ} {sum : ℤ} → i ≡ n → Summed n cs p axis i sum → Is determinantLimit (weightSum n cs 1 (masksAs n p) axis) sum
   unfolding weightSum
-  summed-all i sum e s =
+  summed-all {i} {sum} e s =
       let whole : sum ≡ weightSum n cs 1 (masksAs n p) axis =
       sym (ap (λ ms. sum ⊕ weightSum n cs i ms axis) (ap (λ k. drop (k - 1) (masksAs n p)) e ∙ masks-none n a p) ∙ add-zero sum) ∙ s .total in
       record { is = whole; size = subst (Size determinantLimit) whole (size-weaken (s .size) (omega (arith, a .high))) }

@@ -1,8 +1,8 @@
 -- The search of `exit` from a vertex on, in the code's numbers.
 use Prim.Native.Nat.{ℕ, suc, _+_, _-_, _≤_}
 use mathlib.Core.Path.{_≡_, sym, ap, _∙_}
-use mathlib.Core.Bool.{true, false}
-use mathlib.Core.List.{List}
+use mathlib.Core.Bool.{Bool, true, false}
+use mathlib.Core.List.{List, _∷_}
 use native.Mathlib.Omega.{arith}
 use Rattle.exact.specs.Det.{Column}
 use Rattle.exact.specs.Crossed.{countFrom, otherCrossed, exit}
@@ -18,18 +18,20 @@ module _ (n : ℕ) (us : List Column) (out : ℕ) where
   unfolding exit searchFrom
   exit-start = let whole : suc n ≡ suc n - 0 = omega arith in ap (λ m. otherCrossed n us out (suc n) (countFrom 0 m)) whole
 
-  pub exit-here : (q : ℕ) → q ≤ n → isOther n us out q ≡ true → searchFrom q ≡ q
-  unfolding searchFrom
-  exit-here q l h =
-      ap (otherCrossed n us out (suc n)) (countFrom-next q (suc n) (omega arith))
-      ∙ otherCrossed-here n us out (suc n) q (countFrom (q + 1) (suc n - (q + 1))) h
+-- what the search gives at q, where `other` is the test of vertex q
+module _ (n : ℕ) (us : List Column) (out q : ℕ) (inv : exit n us out ≡ searchFrom n us out q) where
+  module _ (l : q ≤ n) {other : Bool} (is-other : other ≡ isOther n us out q) where
+    next : searchFrom n us out q ≡ otherCrossed n us out (suc n) (q ∷ countFrom (q + 1) (suc n - (q + 1)))
+    unfolding searchFrom
+    next = ap (otherCrossed n us out (suc n)) (countFrom-next q (suc n) (omega arith))
 
-  pub exit-later : (q : ℕ) → q ≤ n → isOther n us out q ≡ false → searchFrom q ≡ searchFrom (q + 1)
-  unfolding searchFrom
-  exit-later q l h =
-      ap (otherCrossed n us out (suc n)) (countFrom-next q (suc n) (omega arith))
-      ∙ otherCrossed-later n us out (suc n) q (countFrom (q + 1) (suc n - (q + 1))) h
+    pub exit-here : other ≡ true → q ≡ exit n us out
+    exit-here t = sym (inv ∙ next ∙ otherCrossed-here n us out (suc n) q (countFrom (q + 1) (suc n - (q + 1))) (sym is-other ∙ t))
 
-  pub exit-end : (q : ℕ) → q ≡ suc n → searchFrom q ≡ q
+    pub exit-later : other ≡ false → exit n us out ≡ searchFrom n us out (q + 1)
+    unfolding searchFrom
+    exit-later t = inv ∙ next ∙ otherCrossed-later n us out (suc n) q (countFrom (q + 1) (suc n - (q + 1))) (sym is-other ∙ t)
+
+  pub exit-end : q ≡ suc n → q ≡ exit n us out
   unfolding searchFrom otherCrossed
-  exit-end q e = ap (otherCrossed n us out (suc n)) (countFrom-none q (suc n) (omega arith)) ∙ sym e
+  exit-end e = sym (inv ∙ ap (otherCrossed n us out (suc n)) (countFrom-none q (suc n) (omega arith)) ∙ sym e)

@@ -9,7 +9,7 @@ use native.Mathlib.Omega.{arith}
 use native.Mathlib.Decide.{ℕ-discrete}
 use lib.ListN.{length, getD, take}
 use lib.Dec.{eqb}
-use borrow.Author.Tests.{eqb-true, eq-eqb}
+use borrow.Author.Tests.{eqb-true, eq-eqb, ne-eqb}
 use Rattle.exact.proofs.AndTests.{and-left, and-right, and-true}
 use Rattle.curves.specs.Grid.{Place, Incidence, placeAt, placeOf, placeOk, incidence, sameMasks, orders}
 use Rattle.curves.specs.Curve.{_∈_}
@@ -22,7 +22,7 @@ use Rattle.paper.proofs.Tests.{DimensionRange, dimension-range}
 use Rattle.bits.specs.Axes.{Axes}
 use Rattle.bits.proofs.EachDimension.{each-axes}
 use Rattle.places.specs.declared.HeldPlace.{HeldPlace}
-use Rattle.places.specs.Held.{masksAs}
+use Rattle.places.specs.Held.{masksAs, facetAs, placeAs}
 use Rattle.orders.specs.Table.{orderAt, InTable}
 use Rattle.orders.specs.Facets.{masksAt, sideAt, facetMask}
 use Rattle.orders.specs.Corners.{cornerUnder, lowOver}
@@ -44,7 +44,7 @@ unfolding sameMasks
 taken-compared n h a b c x y z =
     each-axes (λ n. sameMasks (take (n - 1) (a ∷ b ∷ c ∷ [])) (take (n - 1) (x ∷ y ∷ z ∷ [])) ≡ compared n a b c x y z) refl refl refl n h
 
-pub masks-compared :
+masks-compared :
     (n row out : ℕ) → InTable n row → out ≤ n → (p : HeldPlace)
     → sameMasks (masksAt n row out) (masksAs n p)
     ≡ compared n (facetMask n row out 1) (facetMask n row out 2) (facetMask n row out 3) (p .mask1) (p .mask2) (p .mask3)
@@ -52,6 +52,63 @@ unfolding masksAs
 masks-compared n row out h l p =
     ap (λ ms. sameMasks ms (masksAs n p)) (masks-are n row out h l)
     ∙ taken-compared n (h .axes) (facetMask n row out 1) (facetMask n row out 2) (facetMask n row out 3) (p .mask1) (p .mask2) (p .mask3)
+
+-- what each answer of the comparison says, from the masks that were computed
+module _ {n row out : ℕ} (pre : InTable n row × (out ≤ n)) (p : HeldPlace) where
+  its-masks :
+      sameMasks (masksAt n row out) (masksAs n p)
+      ≡ compared n (facetMask n row out 1) (facetMask n row out 2) (facetMask n row out 3) (p .mask1) (p .mask2) (p .mask3)
+  its-masks = masks-compared n row out (pre .0) (pre .1) p
+
+  module _ {a : ℕ} (is-first : a ≡ facetMask n row out 1) where
+    pub first-differs : (a ≡ p .mask1 → ⊥) → false ≡ sameMasks (masksAt n row out) (masksAs n p)
+    first-differs d = sym (its-masks ∙ rw (ne-eqb (facetMask n row out 1) (p .mask1) (λ e. d (is-first ∙ e))))
+
+    module _ (first : a ≡ p .mask1) where
+      test-first : eqb (facetMask n row out 1) (p .mask1) ≡ true
+      test-first = eq-eqb (facetMask n row out 1) (p .mask1) (sym is-first ∙ first)
+
+      pub same-of-two : n ≡ 2 → true ≡ sameMasks (masksAt n row out) (masksAs n p)
+      same-of-two two = sym (its-masks ∙ rw (test-first, eq-eqb n 2 two))
+
+      module _ (not-two : n ≡ 2 → ⊥) {b : ℕ} (is-second : b ≡ facetMask n row out 2) where
+        pub second-differs : (b ≡ p .mask2 → ⊥) → false ≡ sameMasks (masksAt n row out) (masksAs n p)
+        second-differs d =
+            sym
+            (its-masks
+            ∙ rw (test-first, ne-eqb n 2 not-two, ne-eqb (facetMask n row out 2) (p .mask2) (λ e. d (is-second ∙ e))))
+
+        module _ (second : b ≡ p .mask2) where
+          test-second : eqb (facetMask n row out 2) (p .mask2) ≡ true
+          test-second = eq-eqb (facetMask n row out 2) (p .mask2) (sym is-second ∙ second)
+
+          pub same-of-three : n ≡ 3 → true ≡ sameMasks (masksAt n row out) (masksAs n p)
+          same-of-three three =
+              sym (its-masks ∙ rw (test-first, ne-eqb n 2 not-two, test-second, eq-eqb n 3 three))
+
+          module _ (not-three : n ≡ 3 → ⊥) {c : ℕ} (is-third : c ≡ facetMask n row out 3) where
+            pub third-differs : (c ≡ p .mask3 → ⊥) → false ≡ sameMasks (masksAt n row out) (masksAs n p)
+            third-differs d =
+                sym
+                (its-masks
+                ∙ rw (test-first, ne-eqb n 2 not-two, test-second, ne-eqb n 3 not-three, ne-eqb (facetMask n row out 3) (p .mask3) (λ e. d (is-third ∙ e))))
+
+            pub same-of-four : c ≡ p .mask3 → true ≡ sameMasks (masksAt n row out) (masksAs n p)
+            same-of-four third =
+                sym
+                (its-masks
+                ∙ rw (test-first, ne-eqb n 2 not-two, test-second, ne-eqb n 3 not-three, eq-eqb (facetMask n row out 3) (p .mask3) (sym is-third ∙ third)))
+
+-- the masks first, then the side
+module _
+    (n row out : ℕ) (p : HeldPlace) {same : Bool} (is-same : same ≡ sameMasks (masksAt n row out) (masksAs n p)) where
+  pub matches-by-side : same ≡ true → {s : ℕ} → s ≡ sideAt n row out → eqb s (p .side) ≡ matches n row out (placeAs n p)
+  unfolding matches placeAs facetAs
+  matches-by-side t e = ap (λ s. eqb s (p .side)) e ∙ ap (λ t. t && eqb (sideAt n row out) (p .side)) (sym t ∙ is-same)
+
+  pub other-masks : same ≡ false → false ≡ matches n row out (placeAs n p)
+  unfolding matches placeAs facetAs
+  other-masks f = ap (λ t. t && eqb (sideAt n row out) (p .side)) (sym f ∙ is-same)
 
 -- ---- what matches is right
 
@@ -116,7 +173,10 @@ module _ (n : ℕ) (d : dimensionOk n ≡ true) (p : Place) (w : placeOk n p ≡
   unfolding simplex
   valid = incidence-ok n p w
 
-  its-place : placed (lowOver (simplex .corner) (simplex .order) (simplex .out)) (placeAt [] (simplex .order) (simplex .out) .facet .masks) (placeAt [] (simplex .order) (simplex .out) .side) ≡ p
+  its-place :
+      placed (lowOver (simplex .corner) (simplex .order) (simplex .out)) (placeAt [] (simplex .order) (simplex .out) .facet .masks)
+      (placeAt [] (simplex .order) (simplex .out) .side)
+      ≡ p
   unfolding simplex placeOf
   its-place = sym (place-anywhere (simplex .corner) (simplex .order) (simplex .out)) ∙ place-incidence n p w
 

@@ -13,7 +13,8 @@ use Rattle.exact.specs.Crossed.{coefficient, coefficients, crossed}
 use Rattle.exact.proofs.Bits.{holds-call}
 use Rattle.facets.specs.Cells.{facetColumns}
 use Rattle.facets.specs.Signs.{signNumber}
-use Rattle.facets.proofs.CrossedWalk.{leftAt, left-begin, left-passed, verticesLeft, crossed-zero, crossed-begin, vertices-none, vertex-with, vertex-against, vertex-without}
+use Rattle.facets.proofs.CrossedWalk.{leftAt, left-begin, left-passed, verticesLeft, crossed-zero, crossed-begin}
+use Rattle.facets.proofs.CrossedWalk.{vertices-none, vertex-with, vertex-against, vertex-without}
 use Rattle.facets.proofs.crossed.Statement.{statement}
 use Rattle.facets.proofs.crossed.Tie as tie
 
@@ -34,14 +35,18 @@ abbrev μ-vertices : tie.MeasureT-vertices
 -- `side` is the number of D's sign
 side-is :
     (c : tie.After-sign-of Inv-loop μ-loop Inv-vertices μ-vertices)
-    → c .sign-of .result ≡ signNumber (sign (determinant (c .before .before .args .n) (facetColumns (c .before .before .args .n) (c .before .before .args .cells .now) (c .before .before .args .out))))
+    → let start = c .before .before in
+    let columns = facetColumns (start .args .n) (start .args .cells .now) (start .args .out) in
+    c .sign-of .result ≡ signNumber (sign (determinant (start .args .n) columns))
 side-is c = c .sign-of .ensures ∙ ap (λ z. signNumber (sign z)) (holds-call (c .before .determinant .ensures) (lit≤ tt) .is)
 
 -- `found` is the number of the coefficient's sign
 found-is :
     (c : tie.After-sign-of2 Inv-loop μ-loop Inv-vertices μ-vertices)
-    → c .sign-of2 .result
-    ≡ signNumber (sign (coefficient (c .before .before .before .before .before .before .before .before .before .args .n) (facetColumns (c .before .before .before .before .before .before .before .before .before .args .n) (c .before .before .before .before .before .before .before .before .before .args .cells .now) (c .before .before .before .before .before .before .before .before .before .args .out)) (c .before .before .before .before .before .vertices .i) (c .before .before .before .loop .j)))
+    → let start = c .before .before .before .before .before .before .before .before .before in
+    let columns = facetColumns (start .args .n) (start .args .cells .now) (start .args .out) in
+    let i = c .before .before .before .before .before .vertices .i in
+    c .sign-of2 .result ≡ signNumber (sign (coefficient (start .args .n) columns i (c .before .before .before .loop .j)))
 found-is c = c .sign-of2 .ensures ∙ ap (λ z. signNumber (sign z)) (holds-call (c .before .coefficient .ensures) (lit≤ tt) .is)
 
 -- a power that is looked at is below n
@@ -65,7 +70,9 @@ loop-holds c = (refl, (omega arith, left-begin _ _ (c .before .vertices .i)))
 
 coefficient-requires : tie.Need-coefficient-requires Inv-loop μ-loop Inv-vertices μ-vertices
 coefficient-requires c κs =
-    (c .before .before .before .before .before .before .before .pre .0, (c .before .before .before .before .before .before .before .pre .1, (c .before .before .vertices-test .taken, inside c)))
+    let start = c .before .before .before .before .before .before .before in
+    let vertices-test = c .before .before .vertices-test in
+    (start .pre .0, (start .pre .1, (vertices-test .taken, inside c)))
 
 sign-of-requires-2 : tie.Need-sign-of-requires-2 Inv-loop μ-loop Inv-vertices μ-vertices
 sign-of-requires-2 c κs = tt
@@ -77,14 +84,16 @@ loop-less : tie.Need-loop-less Inv-loop μ-loop Inv-vertices μ-vertices
 loop-less c = omega arith
 
 loop-again : tie.Need-loop-again Inv-loop μ-loop Inv-vertices μ-vertices
-loop-again c = (
-  c .before .before .before .before .loop .inv .0,
-  (
-    omega arith,
-    c .before .before .before .before .loop .inv .1 .1
-        ∙ left-passed _ _ (c .before .before .before .before .before .before .vertices .i) (c .before .before .before .before .loop .j) (inside (c .before .before .before)) (sym (found-is (c .before)) ∙ c .if2 .left),
-  ),
-)
+loop-again c =
+    let vertices = c .before .before .before .before .before .before .vertices in
+    let loop = c .before .before .before .before .loop in (
+      loop .inv .0,
+      (
+        omega arith,
+        loop .inv .1 .1
+            ∙ left-passed _ _ (vertices .i) (loop .j) (inside (c .before .before .before)) (sym (found-is (c .before)) ∙ c .if2 .left),
+      ),
+    )
 
 add-i : tie.Need-add-i Inv-loop μ-loop Inv-vertices μ-vertices
 add-i c = omega arith
@@ -94,15 +103,19 @@ vertices-less c = omega arith
 
 vertices-again : tie.Need-vertices-again Inv-loop μ-loop Inv-vertices μ-vertices
 vertices-again c =
+    let vertices = c .before .before .before .before .vertices in
+    let vertices-test = c .before .before .before .vertices-test in
+    let loop = c .before .before .loop in
     ⊎-elim
-    (λ w. absurd (true≢false (sym (not-false (c .before .loop-test .with) (c .if4 .left)) ∙ w .1 ∙ c .before .before .loop .inv .0)))
+    (λ w. absurd (true≢false (sym (not-false (c .before .loop-test .with) (c .if4 .left)) ∙ w .1 ∙ loop .inv .0)))
     (λ w.
-    let found = found-is (record { before = record { before = record { before = c .before .before; loop-test = w .0 }; coefficient = w .1 }; sign-of2 = w .2 }) in (
+    let in-loop : tie.In-loop Inv-loop μ-loop Inv-vertices μ-vertices = record { before = c .before .before; loop-test = w .0 } in
+    let found = found-is (record { before = record { before = in-loop; coefficient = w .1 }; sign-of2 = w .2 }) in (
       w .5,
       (
         omega arith,
-        c .before .before .before .before .vertices .inv .1 .1
-            ∙ vertex-with _ _ (c .before .before .before .before .vertices .i) (c .before .before .loop .j) (c .before .before .before .vertices-test .taken) (inside (record { before = c .before .before; loop-test = w .0 })) (c .before .before .loop .inv .1 .1)
+        vertices .inv .1 .1
+            ∙ vertex-with _ _ (vertices .i) (loop .j) (vertices-test .taken) (inside in-loop) (loop .inv .1 .1)
             (λ h. w .3 .taken (found ∙ h)) (sym found ∙ w .4 .left ∙ side-is (c .before .before .before .before .before .before)),
       ),
     ))
@@ -114,20 +127,29 @@ returns-2 c =
 
 returns-3 : tie.Need-returns-3 Inv-loop μ-loop Inv-vertices μ-vertices
 returns-3 c =
-    c .before .before .before .before .before .loop .inv .0
+    let side = side-is (c .before .before .before .before .before .before .before .before .before) in
+    let vertices = c .before .before .before .before .before .before .before .vertices in
+    let vertices-test = c .before .before .before .before .before .before .vertices-test in
+    let loop = c .before .before .before .before .before .loop in
+    loop .inv .0
     ∙ sym
-    (c .before .before .before .before .before .before .before .vertices .inv .1 .1
-    ∙ vertex-against _ _ (c .before .before .before .before .before .before .before .vertices .i) (c .before .before .before .before .before .loop .j) (c .before .before .before .before .before .before .vertices-test .taken) (inside (c .before .before .before .before)) (c .before .before .before .before .before .loop .inv .1 .1)
-    (λ h. c .before .if2 .taken (found-is (c .before .before) ∙ h)) (λ h. c .if3 .taken (found-is (c .before .before) ∙ h ∙ sym (side-is (c .before .before .before .before .before .before .before .before .before)))))
+    (vertices .inv .1 .1
+    ∙ vertex-against _ _ (vertices .i) (loop .j) (vertices-test .taken) (inside (c .before .before .before .before)) (loop .inv .1 .1)
+    (λ h. c .before .if2 .taken (found-is (c .before .before) ∙ h))
+    (λ h. c .if3 .taken (found-is (c .before .before) ∙ h ∙ sym side)))
 
 returns-4 : tie.Need-returns-4 Inv-loop μ-loop Inv-vertices μ-vertices
 returns-4 c =
+    let if1 = c .before .before .before .before .before .if1 in
+    let vertices = c .before .before .before .before .vertices in
+    let vertices-test = c .before .before .before .vertices-test in
+    let loop = c .before .before .loop in
     ⊎-elim
-    (λ w. w .1 ∙ c .before .before .loop .inv .0
+    (λ w. w .1 ∙ loop .inv .0
     ∙ sym
-    (c .before .before .before .before .vertices .inv .1 .1
-    ∙ vertex-without _ _ (c .before .before .before .before .vertices .i) (c .before .before .loop .j) (c .before .before .before .vertices-test .taken) (w .0 .left) (c .before .before .loop .inv .1 .1)
-    (λ h. c .before .before .before .before .before .if1 .left (side-is (c .before .before .before .before .before .before) ∙ h))))
+    (vertices .inv .1 .1
+    ∙ vertex-without _ _ (vertices .i) (loop .j) (vertices-test .taken) (w .0 .left) (loop .inv .1 .1)
+    (λ h. if1 .left (side-is (c .before .before .before .before .before .before) ∙ h))))
     (λ w. absurd (true≢false (sym (w .5) ∙ not-true (c .before .loop-test .with) (c .if4 .taken))))
     (c .before .loop-test .came)
 

@@ -5,36 +5,29 @@ use Rattle.points.proofs.coordinate.Statement.{statement}
 use Rattle.points.proofs.coordinate.Tie as tie
 
 size-requires : tie.Need-size-requires
-size-requires c κs = let h = asks-num (c .args .low) (c .args .num) (c .args .d) (c .pre .0) (c .pre .1 .0) (c .pre .1 .1) .size in search needs
+size-requires c κs = let h = asks-num (c .pre) .size in search needs
 
 size-requires-2 : tie.Need-size-requires-2
-size-requires-2 c κs =
-    let h = asks-d (c .before .args .low) (c .before .args .num) (c .before .args .d) (c .before .pre .0) (c .before .pre .1 .0) (c .before .pre .1 .1) .size in search needs
+size-requires-2 c κs = let h = asks-d (c .before .pre) .size in search needs
 
 round-steps-requires : tie.Need-round-steps-requires
-round-steps-requires c κs =
-    asks-round (c .before .before .args .low) (c .before .before .args .num) (c .before .before .args .d) (c .before .before .pre .0) (c .before .before .pre .1 .0) (c .before .before .pre .1 .1)
-    _ _ (c .before .size .ensures) (c .size2 .ensures)
+round-steps-requires c κs = asks-round (c .before .before .pre) (c .before .size .ensures) (c .size2 .ensures)
 
 mul-result : tie.Need-mul-result
 mul-result c =
-    fits-low (c .before .before .before .args .low) (c .before .before .before .args .num) (c .before .before .before .args .d) (c .before .before .before .pre .0) (c .before .before .before .pre .1 .0) (c .before .before .before .pre .1 .1)
-    _ _ (c .before .before .size .ensures) (c .before .size2 .ensures) (c .round-steps .result) (c .round-steps .ensures)
+    fits-low (c .before .before .before .pre) (c .before .before .size .ensures) (c .before .size2 .ensures) (c .round-steps .ensures)
 
 cast-result : tie.Need-cast-result
 cast-result c =
-    fits-steps (c .before .before .before .args .low) (c .before .before .before .args .num) (c .before .before .before .args .d) (c .before .before .before .pre .0) (c .before .before .before .pre .1 .0) (c .before .before .before .pre .1 .1)
-    _ _ (c .before .before .size .ensures) (c .before .size2 .ensures) (c .round-steps .result) (c .round-steps .ensures)
+    fits-steps (c .before .before .before .pre) (c .before .before .size .ensures) (c .before .size2 .ensures) (c .round-steps .ensures)
 
 add-result : tie.Need-add-result
 add-result c =
-    fits-coordinate (c .before .before .before .args .low) (c .before .before .before .args .num) (c .before .before .before .args .d) (c .before .before .before .pre .0) (c .before .before .before .pre .1 .0) (c .before .before .before .pre .1 .1)
-    _ _ (c .before .before .size .ensures) (c .before .size2 .ensures) (c .round-steps .result) (c .round-steps .ensures)
+    fits-coordinate (c .before .before .before .pre) (c .before .before .size .ensures) (c .before .size2 .ensures) (c .round-steps .ensures)
 
 returns : tie.Need-returns
 returns c =
-    coordinate-is (c .before .before .before .args .low) (c .before .before .before .args .num) (c .before .before .before .args .d) (c .before .before .before .pre .0) (c .before .before .before .pre .1 .0) (c .before .before .before .pre .1 .1)
-    _ _ (c .before .before .size .ensures) (c .before .size2 .ensures) (c .round-steps .result) (c .round-steps .ensures)
+    coordinate-is (c .before .before .before .pre) (c .before .before .size .ensures) (c .before .size2 .ensures) (c .round-steps .ensures)
 
 pub coordinate-spec : {M : Type 1} → statement M
 coordinate-spec =

@@ -29,7 +29,7 @@ returns-2 : tie.Need-returns-2
 returns-2 c = record {
   is = axis-missing (c .before .args .mask) (c .before .args .axis) _ _ (c .if1 .left);
   size = cond-size (hasAxis (c .before .args .mask) (c .before .args .axis))
-      (coefficient-size (c .before .args .n) (c .before .args .cells .now) (c .before .pre .0) (c .before .args .n) (c .before .args .i) 0 (c .before .pre .1 .0)
+      (coefficient-size _ _ (c .before .pre .0) (c .before .args .n) (c .before .args .i) 0 (c .before .pre .1 .0)
       (omega (arith, c .before .pre .1 .0)) (le-refl (c .before .args .n)));
 }
 

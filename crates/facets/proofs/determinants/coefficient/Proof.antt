@@ -11,16 +11,13 @@ add-if1 : tie.Need-add-if1
 add-if1 c = search needs
 
 returns : tie.Need-returns
-returns c = cofactor-even (c .before .before .args .n) (c .before .before .args .cells .now) (c .before .before .pre .0) (c .before .before .args .out) (c .before .before .pre .1 .0) (c .before .before .args .i) (c .before .before .args .j) (c .before .before .pre .1 .1 .0) (c .before .before .pre .1 .1 .1)
-    (c .before .minor .result) (c .before .minor .ensures) (c .if1 .taken)
+returns c = cofactor-even (c .before .before .pre) (c .before .minor .ensures) (c .if1 .taken)
 
 sub-result : tie.Need-sub-result
-sub-result c = opposite-fits (c .before .before .args .n) (c .before .before .args .cells .now) (c .before .before .pre .0) (c .before .before .args .out) (c .before .before .pre .1 .0) (c .before .before .args .i) (c .before .before .args .j) (c .before .before .pre .1 .1 .0) (c .before .before .pre .1 .1 .1)
-    (c .before .minor .result) (c .before .minor .ensures)
+sub-result c = opposite-fits (c .before .before .pre) (c .before .minor .ensures)
 
 returns-2 : tie.Need-returns-2
-returns-2 c = cofactor-odd (c .before .before .args .n) (c .before .before .args .cells .now) (c .before .before .pre .0) (c .before .before .args .out) (c .before .before .pre .1 .0) (c .before .before .args .i) (c .before .before .args .j) (c .before .before .pre .1 .1 .0) (c .before .before .pre .1 .1 .1)
-    (c .before .minor .result) (c .before .minor .ensures) (c .if1 .left)
+returns-2 c = cofactor-odd (c .before .before .pre) (c .before .minor .ensures) (c .if1 .left)
 
 pub coefficient-spec : {M : Type 1} → statement M
 coefficient-spec = tie.close (tie.spec minor-requires add-if1 returns sub-result returns-2)

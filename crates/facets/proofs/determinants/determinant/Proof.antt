@@ -28,8 +28,7 @@ coefficient-requires c κs =
 
 add-sum : tie.Need-add-sum Inv-loop μ-loop
 add-sum c =
-    weights-next (c .before .before .before .args .n) (c .before .before .before .args .cells .now) (c .before .before .before .pre .0) (c .before .before .before .args .out) (c .before .before .before .pre .1)
-    (c .before .before .loop .i) _ (c .coefficient .result) (c .before .loop-test .taken) (c .before .before .loop .inv .1) (c .coefficient .ensures) .0
+    weights-next (c .before .before .before .pre) (c .before .loop-test .taken) (c .before .before .loop .inv .1) (c .coefficient .ensures) .0
 
 add-i : tie.Need-add-i Inv-loop μ-loop
 add-i c = omega arith
@@ -40,13 +39,11 @@ loop-less c = omega arith
 loop-again : tie.Need-loop-again Inv-loop μ-loop
 loop-again c = (
   omega arith,
-  weights-next (c .before .before .before .args .n) (c .before .before .before .args .cells .now) (c .before .before .before .pre .0) (c .before .before .before .args .out) (c .before .before .before .pre .1)
-      (c .before .before .loop .i) _ (c .coefficient .result) (c .before .loop-test .taken) (c .before .before .loop .inv .1) (c .coefficient .ensures) .1,
+  weights-next (c .before .before .before .pre) (c .before .loop-test .taken) (c .before .before .loop .inv .1) (c .coefficient .ensures) .1,
 )
 
 returns : tie.Need-returns Inv-loop μ-loop
-returns c =
-    weights-all (c .before .before .args .n) (c .before .before .args .cells .now) (c .before .before .pre .0) (c .before .before .args .out) (c .before .before .pre .1) (c .before .loop .i) _ (omega (arith, c .before .loop .inv .0, c .loop-test .left)) (c .before .loop .inv .1)
+returns c = weights-all (c .before .before .pre) (omega (arith, c .before .loop .inv .0, c .loop-test .left)) (c .before .loop .inv .1)
 
 pub determinant-spec : {M : Type 1} → statement M
 determinant-spec =

@@ -24,7 +24,8 @@ element-copy-out-result c = search needs
 
 returns-2 : tie.Need-returns-2
 returns-2 c =
-    lower-entry (c .before .before .args .cells .now) (c .before .before .args .row) (c .before .before .args .v) (c .before .before .pre .0) (c .before .if1 .left)
+    let start = c .before .before in
+    lower-entry (start .args .cells .now) (start .args .row) (start .args .v) (start .pre .0) (c .before .if1 .left)
 
 pub entry-spec : {M : Type 1} → statement M
 entry-spec =

@@ -13,13 +13,15 @@ two-rows-requires c κs = (within-most (c .before .pre .0), (c .before .pre .1 .
 
 mul-result : tie.Need-mul-result
 mul-result c =
-    fits-mul (entry-of-three (c .before .before .pre .0) (c .before .before .args .r) (c .before .before .args .a) (c .before .entry .ensures))
-    (two-rows-of-three (c .before .before .pre .0) (c .before .before .args .s) (c .before .before .args .t) (c .before .before .args .b) (c .before .before .args .c) (c .two-rows .ensures)) (lit≤ tt)
+    let start = c .before .before in
+    fits-mul (entry-of-three (start .pre .0) (start .args .r) (start .args .a) (c .before .entry .ensures))
+    (two-rows-of-three (start .pre .0) (start .args .s) (start .args .t) (start .args .b) (start .args .c) (c .two-rows .ensures)) (lit≤ tt)
 
 returns : tie.Need-returns
 returns c =
-    holds-mul (entry-of-three (c .before .before .pre .0) (c .before .before .args .r) (c .before .before .args .a) (c .before .entry .ensures))
-    (two-rows-of-three (c .before .before .pre .0) (c .before .before .args .s) (c .before .before .args .t) (c .before .before .args .b) (c .before .before .args .c) (c .two-rows .ensures)) (lit≤ tt)
+    let start = c .before .before in
+    holds-mul (entry-of-three (start .pre .0) (start .args .r) (start .args .a) (c .before .entry .ensures))
+    (two-rows-of-three (start .pre .0) (start .args .s) (start .args .t) (start .args .b) (start .args .c) (c .two-rows .ensures)) (lit≤ tt)
 
 pub product-spec : {M : Type 1} → statement M
 product-spec = tie.close (tie.spec entry-requires two-rows-requires mul-result returns)

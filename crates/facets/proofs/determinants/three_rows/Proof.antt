@@ -18,7 +18,8 @@ sub-result c = fits-sub (holds-call (c .before .product .ensures) (lit≤ tt)) (
 
 product-requires-3 : tie.Need-product-requires-3
 product-requires-3 c κs =
-    (c .before .before .pre .0, (c .before .before .pre .1 .0, (c .before .before .pre .1 .1 .1 .1, (c .before .before .pre .1 .1 .0, c .before .before .pre .1 .1 .1 .0))))
+    let start = c .before .before in
+    (start .pre .0, (start .pre .1 .0, (start .pre .1 .1 .1 .1, (start .pre .1 .1 .0, start .pre .1 .1 .1 .0))))
 
 add-result : tie.Need-add-result
 add-result c =

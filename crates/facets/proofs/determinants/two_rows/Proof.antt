@@ -30,22 +30,33 @@ entry-requires-4 : tie.Need-entry-requires-4
 entry-requires-4 c κs = search needs
 
 mul-result-2 : tie.Need-mul-result-2
-mul-result-2 c = fits-mul (entry-of-two (c .before .before .before .before .pre .0) (c .before .before .before .before .args .r) (c .before .before .before .before .args .b) (c .before .entry3 .ensures))
-    (entry-of-two (c .before .before .before .before .pre .0) (c .before .before .before .before .args .s) (c .before .before .before .before .args .a) (c .entry4 .ensures)) (lit≤ tt)
+mul-result-2 c =
+    let start = c .before .before .before .before in
+    fits-mul (entry-of-two (start .pre .0) (start .args .r) (start .args .b) (c .before .entry3 .ensures))
+    (entry-of-two (start .pre .0) (start .args .s) (start .args .a) (c .entry4 .ensures)) (lit≤ tt)
 
+-- the two products
 left :
     (c : tie.After-entry4)
-    → Is (2 ^ 56) (entryAt (c .before .before .before .before .args .cells .now) (c .before .before .before .before .args .r) (c .before .before .before .before .args .a)
-    ⊗ entryAt (c .before .before .before .before .args .cells .now) (c .before .before .before .before .args .s) (c .before .before .before .before .args .b)) (back (back (c .before .before .before .entry .result) *ℤ back (c .before .before .entry2 .result)))
-left c = holds-mul (entry-of-two (c .before .before .before .before .pre .0) (c .before .before .before .before .args .r) (c .before .before .before .before .args .a) (c .before .before .before .entry .ensures))
-    (entry-of-two (c .before .before .before .before .pre .0) (c .before .before .before .before .args .s) (c .before .before .before .before .args .b) (c .before .before .entry2 .ensures)) (lit≤ tt)
+    → let start = c .before .before .before .before in
+    let at = entryAt (start .args .cells .now) in
+    let product = back (c .before .before .before .entry .result) *ℤ back (c .before .before .entry2 .result) in
+    Is (2 ^ 56) (at (start .args .r) (start .args .a) ⊗ at (start .args .s) (start .args .b)) (back product)
+left c =
+    let start = c .before .before .before .before in
+    holds-mul (entry-of-two (start .pre .0) (start .args .r) (start .args .a) (c .before .before .before .entry .ensures))
+    (entry-of-two (start .pre .0) (start .args .s) (start .args .b) (c .before .before .entry2 .ensures)) (lit≤ tt)
 
 right :
     (c : tie.After-entry4)
-    → Is (2 ^ 56) (entryAt (c .before .before .before .before .args .cells .now) (c .before .before .before .before .args .r) (c .before .before .before .before .args .b)
-    ⊗ entryAt (c .before .before .before .before .args .cells .now) (c .before .before .before .before .args .s) (c .before .before .before .before .args .a)) (back (back (c .before .entry3 .result) *ℤ back (c .entry4 .result)))
-right c = holds-mul (entry-of-two (c .before .before .before .before .pre .0) (c .before .before .before .before .args .r) (c .before .before .before .before .args .b) (c .before .entry3 .ensures))
-    (entry-of-two (c .before .before .before .before .pre .0) (c .before .before .before .before .args .s) (c .before .before .before .before .args .a) (c .entry4 .ensures)) (lit≤ tt)
+    → let start = c .before .before .before .before in
+    let at = entryAt (start .args .cells .now) in
+    let product = back (c .before .entry3 .result) *ℤ back (c .entry4 .result) in
+    Is (2 ^ 56) (at (start .args .r) (start .args .b) ⊗ at (start .args .s) (start .args .a)) (back product)
+right c =
+    let start = c .before .before .before .before in
+    holds-mul (entry-of-two (start .pre .0) (start .args .r) (start .args .b) (c .before .entry3 .ensures))
+    (entry-of-two (start .pre .0) (start .args .s) (start .args .a) (c .entry4 .ensures)) (lit≤ tt)
 
 sub-result : tie.Need-sub-result
 sub-result c = fits-sub (left c) (right c) (lit≤ tt)

@@ -43,11 +43,12 @@ axis-of-requires c κs = search needs
 
 returns : tie.Need-returns
 returns c =
-    let n = c .before .before .before .args .n in
-    let a = axisAt n (c .before .before .before .args .row) (c .before .before .before .args .k) in
-    c .axis-of .ensures n a [] (omega (arith, c .before .before .before .pre .0 .axes .high))
+    let start = c .before .before .before in
+    let n = start .args .n in
+    let a = axisAt n (start .args .row) (start .args .k) in
+    c .axis-of .ensures n a [] (omega (arith, start .pre .0 .axes .high))
     (ap (axes n) (omega (arith, upper-is (c .before)))
-    ∙ axes-power n a (axis-under n (c .before .before .before .args .row) (c .before .before .before .args .k) (c .before .before .before .pre .0) (c .before .before .before .pre .1)))
+    ∙ axes-power n a (axis-under n (start .args .row) (start .args .k) (start .pre .0) (start .pre .1)))
 
 pub added-axis-spec : {M : Type 1} → statement M
 added-axis-spec =

@@ -30,20 +30,24 @@ vertex-mask-requires-2 c κs = search needs
 -- the two results
 first-is :
     (c : tie.After-vertex-mask2)
-    → c .before .before .vertex-mask .result
-    ≡ vertexMask (orderAt (c .before .before .before .before .before .args .n) (c .before .before .before .before .before .args .row)) (skip (c .before .before .before .before .before .args .out) (c .before .before .before .before .before .args .i))
+    → let start = c .before .before .before .before .before in
+    c .before .before .vertex-mask .result ≡ vertexMask (orderAt (start .args .n) (start .args .row)) (skip (start .args .out) (start .args .i))
 first-is c = c .before .before .vertex-mask .ensures ∙ ap (vertexMask _) (c .before .before .before .skip .ensures .0)
 
 low-is :
     (c : tie.After-vertex-mask2)
-    → c .vertex-mask2 .result ≡ vertexMask (orderAt (c .before .before .before .before .before .args .n) (c .before .before .before .before .before .args .row)) (skip (c .before .before .before .before .before .args .out) 0)
+    → let start = c .before .before .before .before .before in
+    c .vertex-mask2 .result ≡ vertexMask (orderAt (start .args .n) (start .args .row)) (skip (start .args .out) 0)
 low-is c = c .vertex-mask2 .ensures ∙ ap (vertexMask _) (c .before .skip2 .ensures .0)
 
 sub-result : tie.Need-sub-result
 sub-result c =
+    let start = c .before .before .before .before .before in
+    let length = row-length (start .args .n) (start .args .row) (start .pre .0) in
+    let if1 = c .before .before .before .before .if1 in
     rw (first-is c, low-is c)
-    (skip-rises (orderAt (c .before .before .before .before .before .args .n) (c .before .before .before .before .before .args .row)) (c .before .before .before .before .before .args .out) (c .before .before .before .before .before .args .i)
-    (omega (arith, row-length (c .before .before .before .before .before .args .n) (c .before .before .before .before .before .args .row) (c .before .before .before .before .before .pre .0), c .before .before .before .before .before .pre .1 .0)) (omega (arith, c .before .before .before .before .if1 .left, row-length (c .before .before .before .before .before .args .n) (c .before .before .before .before .before .args .row) (c .before .before .before .before .before .pre .0))))
+    (skip-rises (orderAt (start .args .n) (start .args .row)) (start .args .out) (start .args .i)
+    (omega (arith, length, start .pre .1 .0)) (omega (arith, if1 .left, length)))
 
 returns-2 : tie.Need-returns-2
 unfolding facetMask

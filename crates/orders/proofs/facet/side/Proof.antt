@@ -22,41 +22,65 @@ is-flat-requires : tie.Need-is-flat-requires
 is-flat-requires c κs = search needs
 
 -- what the call of `is_flat` says of the facet
-is-flat : (c : tie.After-is-flat) → c .is-flat .result ≡ flatAt (c .before .before .args .n) (c .before .before .args .row) (c .before .before .args .out)
+is-flat :
+    (c : tie.After-is-flat)
+    → let start = c .before .before in c .is-flat .result ≡ flatAt (start .args .n) (start .args .row) (start .args .out)
 is-flat c = c .is-flat .ensures ∙ ap (λ m. eqb (suc (ones m)) (c .before .before .args .n)) (c .before .facet-mask .ensures)
 
-flat : (c : tie.Then1) → flatAt (c .before .before .before .args .n) (c .before .before .before .args .row) (c .before .before .before .args .out) ≡ true
+flat : (c : tie.Then1) → let start = c .before .before .before in flatAt (start .args .n) (start .args .row) (start .args .out) ≡ true
 flat c = sym (is-flat (c .before)) ∙ c .if1 .taken
 
-bent : (c : tie.Else1) → flatAt (c .before .before .before .args .n) (c .before .before .before .args .row) (c .before .before .before .args .out) ≡ false
+bent : (c : tie.Else1) → let start = c .before .before .before in flatAt (start .args .n) (start .args .row) (start .args .out) ≡ false
 bent c = sym (is-flat (c .before)) ∙ c .if1 .left
 
 returns : tie.Need-returns
-returns c = sym (side-is (c .before .before .before .before .args .n) (c .before .before .before .before .args .row) (c .before .before .before .before .args .out) (c .before .before .before .before .pre .0) (c .before .before .before .before .pre .1) ∙ rw (flat (c .before), eq-eqb (c .before .before .before .before .args .out) 0 (c .if2 .taken)))
+returns c =
+    let start = c .before .before .before .before in
+    sym (side-is (start .pre) ∙ rw (flat (c .before), eq-eqb (start .args .out) 0 (c .if2 .taken)))
 
 returns-2 : tie.Need-returns-2
-returns-2 c = sym (side-is (c .before .before .before .before .args .n) (c .before .before .before .before .args .row) (c .before .before .before .before .args .out) (c .before .before .before .before .pre .0) (c .before .before .before .before .pre .1) ∙ rw (flat (c .before), ne-eqb (c .before .before .before .before .args .out) 0 (c .if2 .left)))
+returns-2 c =
+    let start = c .before .before .before .before in
+    sym (side-is (start .pre) ∙ rw (flat (c .before), ne-eqb (start .args .out) 0 (c .if2 .left)))
 
 sub-added-axis : tie.Need-sub-added-axis
-sub-added-axis c = bent-low (c .before .before .before .args .n) (c .before .before .before .args .row) (c .before .before .before .args .out) (c .before .before .before .pre .0) (c .before .before .before .pre .1) (bent c)
+sub-added-axis c = bent-low (c .before .before .before .pre) (bent c)
 
 added-axis-requires : tie.Need-added-axis-requires
 added-axis-requires c κs = search needs
 
 added-axis-requires-2 : tie.Need-added-axis-requires-2
-added-axis-requires-2 c κs = (c .before .before .before .before .pre .0, bent-high (c .before .before .before .before .args .n) (c .before .before .before .before .args .row) (c .before .before .before .before .args .out) (c .before .before .before .before .pre .0) (c .before .before .before .before .pre .1) (bent (c .before)))
+added-axis-requires-2 c κs =
+    let start = c .before .before .before .before in
+    (start .pre .0, bent-high (start .pre) (bent (c .before)))
 
 returns-3 : tie.Need-returns-3
 returns-3 c =
+    let start = c .before .before .before .before .before .before in
+    let n = start .args .n in
+    let row = start .args .row in
+    let out = start .args .out in
+    let added-axis = c .before .before .added-axis in
     sym
-    (side-is (c .before .before .before .before .before .before .args .n) (c .before .before .before .before .before .before .args .row) (c .before .before .before .before .before .before .args .out) (c .before .before .before .before .before .before .pre .0) (c .before .before .before .before .before .before .pre .1)
-    ∙ rw (bent (c .before .before .before), lt-ltb (axisAt (c .before .before .before .before .before .before .args .n) (c .before .before .before .before .before .before .args .row) (c .before .before .before .before .before .before .args .out - 1)) (axisAt (c .before .before .before .before .before .before .args .n) (c .before .before .before .before .before .before .args .row) (c .before .before .before .before .before .before .args .out)) (omega (arith, c .before .before .added-axis .ensures, c .before .added-axis2 .ensures))))
+    (side-is (start .pre)
+    ∙ rw (
+      bent (c .before .before .before),
+      lt-ltb (axisAt n row (out - 1)) (axisAt n row out) (omega (arith, added-axis .ensures, c .before .added-axis2 .ensures)),
+    ))
 
 returns-4 : tie.Need-returns-4
 returns-4 c =
+    let start = c .before .before .before .before .before .before in
+    let n = start .args .n in
+    let row = start .args .row in
+    let out = start .args .out in
+    let added-axis = c .before .before .added-axis in
     sym
-    (side-is (c .before .before .before .before .before .before .args .n) (c .before .before .before .before .before .before .args .row) (c .before .before .before .before .before .before .args .out) (c .before .before .before .before .before .before .pre .0) (c .before .before .before .before .before .before .pre .1)
-    ∙ rw (bent (c .before .before .before), le-ltb (axisAt (c .before .before .before .before .before .before .args .n) (c .before .before .before .before .before .before .args .row) (c .before .before .before .before .before .before .args .out - 1)) (axisAt (c .before .before .before .before .before .before .args .n) (c .before .before .before .before .before .before .args .row) (c .before .before .before .before .before .before .args .out)) (omega (arith, c .before .before .added-axis .ensures, c .before .added-axis2 .ensures))))
+    (side-is (start .pre)
+    ∙ rw (
+      bent (c .before .before .before),
+      le-ltb (axisAt n row (out - 1)) (axisAt n row out) (omega (arith, added-axis .ensures, c .before .added-axis2 .ensures)),
+    ))
 
 pub side-spec : {M : Type 1} → statement M
 side-spec =

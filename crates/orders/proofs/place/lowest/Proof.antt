@@ -16,8 +16,11 @@ moved-requires c κs = search needs
 returns : tie.Need-returns
 unfolding axisAt
 returns c =
-    low-moved (c .before .before .before .args .corner) (orderAt (c .before .before .before .args .n) (c .before .before .before .args .row)) (c .before .before .before .args .out) (c .moved .result) (c .before .axis .result)
-    (omega (arith, c .before .before .before .pre .0 .axes .low, row-length (c .before .before .before .args .n) (c .before .before .before .args .row) (c .before .before .before .pre .0))) (c .before .before .if1 .taken) (c .before .axis .ensures .is) (c .moved .ensures)
+    let start = c .before .before .before in
+    let if1 = c .before .before .if1 in
+    low-moved (start .args .corner) (orderAt (start .args .n) (start .args .row)) (start .args .out) (c .moved .result) (c .before .axis .result)
+    (omega (arith, start .pre .0 .axes .low, row-length _ _ (start .pre .0))) (if1 .taken)
+    (c .before .axis .ensures .is) (c .moved .ensures)
 
 returns-2 : tie.Need-returns-2
 returns-2 c = low-same (c .before .args .corner) (orderAt (c .before .args .n) (c .before .args .row)) (c .before .args .out) (c .if1 .left)

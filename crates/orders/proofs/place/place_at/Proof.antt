@@ -21,8 +21,12 @@ side-requires c κs = search needs
 
 returns : tie.Need-returns
 returns c =
-    place-is (c .before .before .before .before .before .args .n) (c .before .before .before .before .before .args .corner) (c .before .before .before .before .before .args .row) (c .before .before .before .before .before .args .out) _ (c .before .before .before .before .before .pre .0) (c .before .before .before .before .before .pre .1 .0) (c .before .before .before .before .lowest .ensures)
-    (c .before .before .before .facet-mask .ensures) (c .before .before .facet-mask2 .ensures) (c .before .facet-mask3 .ensures) (c .side .ensures)
+    let start = c .before .before .before .before .before in
+    let lowest = c .before .before .before .before .lowest in
+    let facet-mask = c .before .before .before .facet-mask in
+    let facet-mask2 = c .before .before .facet-mask2 in
+    place-is _ (start .args .corner) _ _ _ (start .pre .0) (start .pre .1 .0) (lowest .ensures)
+    (facet-mask .ensures) (facet-mask2 .ensures) (c .before .facet-mask3 .ensures) (c .side .ensures)
 
 pub place-at-spec : {M : Type 1} → statement M
 place-at-spec =

@@ -32,8 +32,8 @@ wide-requires c κs = search needs
 
 returns : tie.Need-returns
 returns c =
-    axis-is (c .before .before .args .n) (c .before .before .args .row) (c .before .before .args .k) (c .before .before .pre .0) (c .before .before .pre .1)
-    (c .wide .ensures ∙ entry-two (c .before .before .args .n) (c .before .before .args .row) (c .before .before .args .k) (c .before .before .pre .0) (c .before .before .pre .1) (c .before .if1 .taken))
+    let start = c .before .before in
+    axis-is _ _ _ (start .pre .0) (start .pre .1) (c .wide .ensures ∙ entry-two _ _ _ (start .pre .0) (start .pre .1) (c .before .if1 .taken))
 
 mul-wide-2 : tie.Need-mul-wide-2
 mul-wide-2 c = omega (arith, row-three c)
@@ -49,8 +49,8 @@ wide-requires-2 c κs = search needs
 
 returns-2 : tie.Need-returns-2
 returns-2 c =
-    axis-is (c .before .before .args .n) (c .before .before .args .row) (c .before .before .args .k) (c .before .before .pre .0) (c .before .before .pre .1)
-    (c .wide2 .ensures ∙ entry-three (c .before .before .args .n) (c .before .before .args .row) (c .before .before .args .k) (c .before .before .pre .0) (c .before .before .pre .1) (c .before .if1 .left))
+    let start = c .before .before in
+    axis-is _ _ _ (start .pre .0) (start .pre .1) (c .wide2 .ensures ∙ entry-three _ _ _ (start .pre .0) (start .pre .1) (c .before .if1 .left))
 
 pub axis-spec : {M : Type 1} → statement M
 axis-spec =

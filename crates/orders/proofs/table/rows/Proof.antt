@@ -15,7 +15,9 @@ returns-2 : tie.Need-returns-2
 returns-2 c = sym (ap (λ n. length (orders n)) (c .if2 .taken) ∙ length-orders-3)
 
 returns-3 : tie.Need-returns-3
-returns-3 c = sym (ap (λ n. length (orders n)) (omega (arith, c .before .before .pre .low, c .before .before .pre .high, c .before .if1 .left, c .if2 .left)) ∙ length-orders-4)
+returns-3 c =
+    let start = c .before .before in
+    sym (ap (λ n. length (orders n)) (omega (arith, start .pre .low, start .pre .high, c .before .if1 .left, c .if2 .left)) ∙ length-orders-4)
 
 pub rows-spec : {M : Type 1} → statement M
 rows-spec = tie.close (tie.spec returns returns-2 returns-3)

@@ -40,7 +40,9 @@ wide-requires c κs = search needs
 
 returns-2 : tie.Need-returns-2
 returns-2 c =
-    c .wide .ensures ∙ mask-two (c .before .before .before .args .n) (c .before .before .before .args .row) (c .before .before .before .args .k) (c .before .before .before .pre) (c .before .before .if1 .left) (c .before .if2 .taken)
+    let start = c .before .before .before in
+    let if1 = c .before .before .if1 in
+    c .wide .ensures ∙ mask-two (start .args .n) (start .args .row) (start .args .k) (start .pre) (if1 .left) (c .before .if2 .taken)
 
 mul-wide-2 : tie.Need-mul-wide-2
 mul-wide-2 c = omega (arith, row-three c)
@@ -56,7 +58,9 @@ wide-requires-2 c κs = search needs
 
 returns-3 : tie.Need-returns-3
 returns-3 c =
-    c .wide2 .ensures ∙ mask-three (c .before .before .before .args .n) (c .before .before .before .args .row) (c .before .before .before .args .k) (c .before .before .before .pre) (c .before .before .if1 .left) (c .before .if2 .left)
+    let start = c .before .before .before in
+    let if1 = c .before .before .if1 in
+    c .wide2 .ensures ∙ mask-three (start .args .n) (start .args .row) (start .args .k) (start .pre) (if1 .left) (c .before .if2 .left)
 
 pub vertex-mask-spec : {M : Type 1} → statement M
 vertex-mask-spec =

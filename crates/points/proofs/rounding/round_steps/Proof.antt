@@ -37,18 +37,22 @@ loop-less c = omega arith
 
 loop-again : tie.Need-loop-again Inv-loop μ-loop
 loop-again c =
+    let start = c .before .before .before .before in
+    let num = start .args .num in
+    let den = start .args .den in
+    let loop = c .before .before .loop in
     ⊎-elim
     (λ w. (
       omega arith,
-      subst (λ q. Doubled (c .before .before .loop .k + 1) (c .before .before .before .before .args .num) (c .before .before .before .before .args .den) q (c .if2 .rest)) (sym (w .1))
-          (subst (λ r. Doubled (c .before .before .loop .k + 1) (c .before .before .before .before .args .num) (c .before .before .before .before .args .den) (2 * c .before .before .loop .steps + 1) r) (sym (w .2))
-          (doubled-high _ _ _ _ _ (c .before .before .loop .inv .1) (w .0 .taken))),
+      subst (λ q. Doubled (loop .k + 1) num den q (c .if2 .rest)) (sym (w .1))
+          (subst (λ r. Doubled (loop .k + 1) num den (2 * loop .steps + 1) r) (sym (w .2))
+          (doubled-high _ _ _ _ _ (loop .inv .1) (w .0 .taken))),
     ))
     (λ w. (
       omega arith,
-      subst (λ q. Doubled (c .before .before .loop .k + 1) (c .before .before .before .before .args .num) (c .before .before .before .before .args .den) q (c .if2 .rest)) (sym (w .1))
-          (subst (λ r. Doubled (c .before .before .loop .k + 1) (c .before .before .before .before .args .num) (c .before .before .before .before .args .den) (2 * c .before .before .loop .steps) r) (sym (w .2))
-          (doubled-low _ _ _ _ _ (c .before .before .loop .inv .1) (w .0 .left))),
+      subst (λ q. Doubled (loop .k + 1) num den q (c .if2 .rest)) (sym (w .1))
+          (subst (λ r. Doubled (loop .k + 1) num den (2 * loop .steps) r) (sym (w .2))
+          (doubled-low _ _ _ _ _ (loop .inv .1) (w .0 .left))),
     ))
     (c .if2 .came)
 

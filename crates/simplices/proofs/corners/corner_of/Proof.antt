@@ -16,11 +16,16 @@ moved-requires c κs = search needs
 returns : tie.Need-returns
 unfolding axisAt
 returns c =
-    corner-moved (c .before .before .before .before .args .p .low) (orderAt (c .before .before .before .before .args .n) (c .before .before .before .before .args .row)) (c .before .before .before .before .args .out) (c .moved .result) (c .before .axis .result)
-    (omega (arith, c .before .before .before .before .pre .0 .axes .low, row-length (c .before .before .before .before .args .n) (c .before .before .before .before .args .row) (c .before .before .before .before .pre .0))) (c .before .before .if1 .taken) (c .before .axis .ensures .is) (c .moved .ensures)
+    let start = c .before .before .before .before in
+    let if1 = c .before .before .if1 in
+    corner-moved (start .args .p .low) (orderAt (start .args .n) (start .args .row)) (start .args .out) (c .moved .result) (c .before .axis .result)
+    (omega (arith, start .pre .0 .axes .low, row-length _ _ (start .pre .0))) (if1 .taken)
+    (c .before .axis .ensures .is) (c .moved .ensures)
 
 returns-2 : tie.Need-returns-2
-returns-2 c = corner-same (c .before .before .args .p .low) (orderAt (c .before .before .args .n) (c .before .before .args .row)) (c .before .before .args .out) (c .if1 .left)
+returns-2 c =
+    let start = c .before .before in
+    corner-same (start .args .p .low) (orderAt (start .args .n) (start .args .row)) (start .args .out) (c .if1 .left)
 
 pub corner-of-spec : {M : Type 1} → statement M
 corner-of-spec = tie.close (tie.spec axis-requires moved-requires returns returns-2)

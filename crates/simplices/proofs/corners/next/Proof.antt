@@ -3,9 +3,8 @@ use mathlib.Core.Path.{ap}
 use native.Mathlib.Omega.{arith}
 use borrow.Author.Needs.{needs}
 use Rattle.curves.specs.Grid.{turn}
-use Rattle.places.specs.Held.{vertexAs, masksAs, facetAs, placeAs}
-use Rattle.orders.specs.Table.{orderAt}
-use Rattle.orders.proofs.Anywhere.{side-under}
+use Rattle.places.specs.Held.{masksAs, facetAs, placeAs}
+use Rattle.orders.proofs.Anywhere.{side-of-place}
 use Rattle.simplices.proofs.corners.next.Statement.{statement}
 use Rattle.simplices.proofs.corners.next.Tie as tie
 
@@ -14,12 +13,7 @@ place-at-requires c κs = search needs
 
 sub-p : tie.Need-sub-p
 unfolding placeAs
-sub-p c =
-    omega (
-      arith,
-      ap (λ q. q .side) (c .before .place-at .ensures .is),
-      side-under (vertexAs (c .before .before .args .n) (c .before .before .args .corner)) (orderAt (c .before .before .args .n) (c .before .before .args .row)) (c .before .before .args .out),
-    )
+sub-p c = omega (arith, side-of-place _ _ _ (c .before .place-at .ensures .is))
 
 returns : tie.Need-returns
 unfolding placeAs facetAs masksAs turn

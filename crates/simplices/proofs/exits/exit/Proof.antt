@@ -1,6 +1,6 @@
 -- `simplices::exits::exit` meets its contract. The loop's invariant: the search goes on from q (`exit-here`, `exit-later`, `exit-end`).
 use Prim.Native.Nat.{suc, _-_, _≤_}
-use mathlib.Core.Path.{_≡_, sym, _∙_}
+use mathlib.Core.Path.{_≡_}
 use native.Mathlib.Omega.{arith}
 use Rattle.exact.specs.Crossed.{exit}
 use Rattle.facets.specs.Cells.{simplexColumns, facetColumns}
@@ -23,10 +23,7 @@ is-other-requires c κs = (c .before .before .pre .0, omega arith)
 returns : tie.Need-returns Inv-loop μ-loop
 unfolding facetColumns
 returns c =
-    sym
-    (c .before .before .before .loop .inv .1
-    ∙ exit-here (c .before .before .before .before .args .n) (simplexColumns (c .before .before .before .before .args .n) (c .before .before .before .before .args .cells .now)) (c .before .before .before .before .args .out) (c .before .before .before .loop .q)
-    (c .before .before .loop-test .taken) (sym (c .before .is-other .ensures) ∙ c .if1 .taken))
+    exit-here _ _ _ _ (c .before .before .before .loop .inv .1) (c .before .before .loop-test .taken) (c .before .is-other .ensures) (c .if1 .taken)
 
 add-q : tie.Need-add-q Inv-loop μ-loop
 add-q c = record { fits = omega (arith, c .before .before .loop-test .taken, c .before .before .before .before .pre .0 .axes .high) }
@@ -38,17 +35,11 @@ loop-again : tie.Need-loop-again Inv-loop μ-loop
 unfolding facetColumns
 loop-again c = (
   omega arith,
-  c .before .before .before .loop .inv .1
-      ∙ exit-later (c .before .before .before .before .args .n) (simplexColumns (c .before .before .before .before .args .n) (c .before .before .before .before .args .cells .now)) (c .before .before .before .before .args .out) (c .before .before .before .loop .q)
-      (c .before .before .loop-test .taken) (sym (c .before .is-other .ensures) ∙ c .if1 .left),
+  exit-later _ _ _ _ (c .before .before .before .loop .inv .1) (c .before .before .loop-test .taken) (c .before .is-other .ensures) (c .if1 .left),
 )
 
 returns-2 : tie.Need-returns-2 Inv-loop μ-loop
-returns-2 c =
-    sym
-    (c .before .loop .inv .1
-    ∙ exit-end (c .before .before .args .n) (simplexColumns (c .before .before .args .n) (c .before .before .args .cells .now)) (c .before .before .args .out) (c .before .loop .q)
-    (omega (arith, c .before .loop .inv .0, c .loop-test .left)))
+returns-2 c = exit-end _ _ _ _ (c .before .loop .inv .1) (omega (arith, c .before .loop .inv .0, c .loop-test .left))
 
 pub exit-spec : {M : Type 1} → statement M
 exit-spec =

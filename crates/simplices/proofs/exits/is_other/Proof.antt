@@ -16,8 +16,10 @@ crossed-requires c κs = search needs
 
 returns-2 : tie.Need-returns-2
 returns-2 c =
+    let start = c .before .before in
     c .crossed .ensures
-    ∙ ap (λ t. not t && crossed (c .before .before .args .n) (facetColumns (c .before .before .args .n) (c .before .before .args .cells .now) (c .before .before .args .q))) (sym (ne-eqb (c .before .before .args .q) (c .before .before .args .out) (c .before .if1 .left)))
+    ∙ ap (λ t. not t && crossed (start .args .n) (facetColumns (start .args .n) (start .args .cells .now) (start .args .q)))
+    (sym (ne-eqb (start .args .q) (start .args .out) (c .before .if1 .left)))
 
 pub is-other-spec : {M : Type 1} → statement M
 is-other-spec = tie.close (tie.spec returns crossed-requires returns-2)

@@ -26,12 +26,19 @@ loop-holds : tie.Need-loop-holds Inv-loop μ-loop
 loop-holds c = (omega arith, λ r l. absurd (omega arith))
 
 find-out-requires : tie.Need-find-out-requires Inv-loop μ-loop
-find-out-requires c κs = record { axes = dimension-axes (c .before .before .before .args .n) (c .before .before .before .pre .0); inside = omega (arith, c .before .before .rows .ensures) }
+find-out-requires c κs =
+    let start = c .before .before .before in
+    let rows = c .before .before .rows in
+    record { axes = dimension-axes (start .args .n) (start .pre .0); inside = omega (arith, rows .ensures) }
 
 returns : tie.Need-returns Inv-loop μ-loop
 returns c =
-    found (c .before .before .before .before .before .args .n) (c .before .before .before .loop .row) (c .before .find-out .result) (placeAs (c .before .before .before .before .before .args .n) (c .before .before .before .before .before .args .p))
-    (record { axes = dimension-axes (c .before .before .before .before .before .args .n) (c .before .before .before .before .before .pre .0); inside = omega (arith, c .before .before .before .before .rows .ensures) })
+    let start = c .before .before .before .before .before in
+    let n = start .args .n in
+    let rows = c .before .before .before .before .rows in
+    let loop = c .before .before .before .loop in
+    found n (loop .row) (c .before .find-out .result) (placeAs n (start .args .p))
+    (record { axes = dimension-axes n (start .pre .0); inside = omega (arith, rows .ensures) })
     (c .if1 .taken) (c .before .find-out .ensures .found (c .if1 .taken))
 
 add-row : tie.Need-add-row Inv-loop μ-loop
@@ -45,9 +52,11 @@ loop-again c = (omega arith, below-more _ _ (c .before .before .before .loop .in
 
 returns-2 : tie.Need-returns-2 Inv-loop μ-loop
 returns-2 c =
+    let start = c .before .before .before in
+    let rows = c .before .before .rows in
     absurd
-    (some-match (c .before .before .before .args .n) (c .before .before .before .pre .0) (placeAs (c .before .before .before .args .n) (c .before .before .before .args .p)) (c .before .before .before .pre .1)
-    (λ r l k u. c .before .loop .inv .1 r (omega (arith, c .before .before .rows .ensures)) k u))
+    (some-match (start .args .n) (start .pre .0) (placeAs (start .args .n) (start .args .p)) (start .pre .1)
+    (λ r l k u. c .before .loop .inv .1 r (omega (arith, rows .ensures)) k u))
 
 pub find-spec : {M : Type 1} → statement M
 find-spec =

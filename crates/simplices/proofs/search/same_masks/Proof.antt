@@ -1,9 +1,6 @@
--- `simplices::search::same_masks` meets its contract: it compares the masks that the dimension has (`masks-compared`).
-use mathlib.Core.Path.{sym, _∙_}
+-- `simplices::search::same_masks` meets its contract: it compares the masks that the dimension has (`first-differs` to `same-of-four`).
 use borrow.Author.Needs.{needs}
-use borrow.Author.Tests.{eq-eqb, ne-eqb}
-use Rattle.orders.specs.Facets.{facetMask}
-use Rattle.simplices.proofs.Matches.{masks-compared}
+use Rattle.simplices.proofs.Matches.{first-differs, same-of-two, second-differs, same-of-three, third-differs, same-of-four}
 use Rattle.simplices.proofs.search.same_masks.Statement.{statement}
 use Rattle.simplices.proofs.search.same_masks.Tie as tie
 
@@ -12,45 +9,64 @@ facet-mask-requires c κs = search needs
 
 returns : tie.Need-returns
 returns c =
-    sym
-    (masks-compared (c .before .before .before .args .n) (c .before .before .before .args .row) (c .before .before .before .args .out) (c .before .before .before .pre .0) (c .before .before .before .pre .1) (c .before .before .before .args .p)
-    ∙ rw (ne-eqb (facetMask (c .before .before .before .args .n) (c .before .before .before .args .row) (c .before .before .before .args .out) 1) (c .before .before .before .args .p .mask1) (λ e. c .if1 .taken (c .before .before .facet-mask .ensures ∙ e))))
+    let start = c .before .before .before in
+    first-differs (start .pre) (start .args .p) (c .before .before .facet-mask .ensures) (c .if1 .taken)
 
 returns-2 : tie.Need-returns-2
 returns-2 c =
-    sym
-    (masks-compared (c .before .before .before .before .args .n) (c .before .before .before .before .args .row) (c .before .before .before .before .args .out) (c .before .before .before .before .pre .0) (c .before .before .before .before .pre .1) (c .before .before .before .before .args .p)
-    ∙ rw (eq-eqb (facetMask (c .before .before .before .before .args .n) (c .before .before .before .before .args .row) (c .before .before .before .before .args .out) 1) (c .before .before .before .before .args .p .mask1) (sym (c .before .before .before .facet-mask .ensures) ∙ c .before .if1 .left), eq-eqb (c .before .before .before .before .args .n) 2 (c .if2 .taken)))
+    let start = c .before .before .before .before in
+    same-of-two (start .pre) (start .args .p) (c .before .before .before .facet-mask .ensures) (c .before .if1 .left) (c .if2 .taken)
 
 facet-mask-requires-2 : tie.Need-facet-mask-requires-2
 facet-mask-requires-2 c κs = search needs
 
 returns-3 : tie.Need-returns-3
 returns-3 c =
-    sym
-    (masks-compared (c .before .before .before .before .before .before .before .args .n) (c .before .before .before .before .before .before .before .args .row) (c .before .before .before .before .before .before .before .args .out) (c .before .before .before .before .before .before .before .pre .0) (c .before .before .before .before .before .before .before .pre .1) (c .before .before .before .before .before .before .before .args .p)
-    ∙ rw (eq-eqb (facetMask (c .before .before .before .before .before .before .before .args .n) (c .before .before .before .before .before .before .before .args .row) (c .before .before .before .before .before .before .before .args .out) 1) (c .before .before .before .before .before .before .before .args .p .mask1) (sym (c .before .before .before .before .before .before .facet-mask .ensures) ∙ c .before .before .before .before .if1 .left), ne-eqb (c .before .before .before .before .before .before .before .args .n) 2 (c .before .before .before .if2 .left), ne-eqb (facetMask (c .before .before .before .before .before .before .before .args .n) (c .before .before .before .before .before .before .before .args .row) (c .before .before .before .before .before .before .before .args .out) 2) (c .before .before .before .before .before .before .before .args .p .mask2) (λ e. c .if3 .taken (c .before .before .facet-mask2 .ensures ∙ e))))
+    let start = c .before .before .before .before .before .before .before in
+    let first-mask = c .before .before .before .before .before .before .facet-mask in
+    let first-test = c .before .before .before .before .if1 in
+    let not-two = c .before .before .before .if2 in
+    let second-mask = c .before .before .facet-mask2 in
+    second-differs (start .pre) (start .args .p) (first-mask .ensures) (first-test .left) (not-two .left) (second-mask .ensures) (c .if3 .taken)
 
 returns-4 : tie.Need-returns-4
 returns-4 c =
-    sym
-    (masks-compared (c .before .before .before .before .before .before .before .before .args .n) (c .before .before .before .before .before .before .before .before .args .row) (c .before .before .before .before .before .before .before .before .args .out) (c .before .before .before .before .before .before .before .before .pre .0) (c .before .before .before .before .before .before .before .before .pre .1) (c .before .before .before .before .before .before .before .before .args .p)
-    ∙ rw (eq-eqb (facetMask (c .before .before .before .before .before .before .before .before .args .n) (c .before .before .before .before .before .before .before .before .args .row) (c .before .before .before .before .before .before .before .before .args .out) 1) (c .before .before .before .before .before .before .before .before .args .p .mask1) (sym (c .before .before .before .before .before .before .before .facet-mask .ensures) ∙ c .before .before .before .before .before .if1 .left), ne-eqb (c .before .before .before .before .before .before .before .before .args .n) 2 (c .before .before .before .before .if2 .left), eq-eqb (facetMask (c .before .before .before .before .before .before .before .before .args .n) (c .before .before .before .before .before .before .before .before .args .row) (c .before .before .before .before .before .before .before .before .args .out) 2) (c .before .before .before .before .before .before .before .before .args .p .mask2) (sym (c .before .before .before .facet-mask2 .ensures) ∙ c .before .if3 .left), eq-eqb (c .before .before .before .before .before .before .before .before .args .n) 3 (c .if4 .taken)))
+    let start = c .before .before .before .before .before .before .before .before in
+    let first-mask = c .before .before .before .before .before .before .before .facet-mask in
+    let first-test = c .before .before .before .before .before .if1 in
+    let not-two = c .before .before .before .before .if2 in
+    let second-mask = c .before .before .before .facet-mask2 in
+    same-of-three (start .pre) (start .args .p) (first-mask .ensures) (first-test .left)
+    (not-two .left) (second-mask .ensures) (c .before .if3 .left) (c .if4 .taken)
 
 facet-mask-requires-3 : tie.Need-facet-mask-requires-3
 facet-mask-requires-3 c κs = search needs
 
 returns-5 : tie.Need-returns-5
 returns-5 c =
-    sym
-    (masks-compared (c .before .before .before .before .before .before .before .before .before .before .before .args .n) (c .before .before .before .before .before .before .before .before .before .before .before .args .row) (c .before .before .before .before .before .before .before .before .before .before .before .args .out) (c .before .before .before .before .before .before .before .before .before .before .before .pre .0) (c .before .before .before .before .before .before .before .before .before .before .before .pre .1) (c .before .before .before .before .before .before .before .before .before .before .before .args .p)
-    ∙ rw (eq-eqb (facetMask (c .before .before .before .before .before .before .before .before .before .before .before .args .n) (c .before .before .before .before .before .before .before .before .before .before .before .args .row) (c .before .before .before .before .before .before .before .before .before .before .before .args .out) 1) (c .before .before .before .before .before .before .before .before .before .before .before .args .p .mask1) (sym (c .before .before .before .before .before .before .before .before .before .before .facet-mask .ensures) ∙ c .before .before .before .before .before .before .before .before .if1 .left), ne-eqb (c .before .before .before .before .before .before .before .before .before .before .before .args .n) 2 (c .before .before .before .before .before .before .before .if2 .left), eq-eqb (facetMask (c .before .before .before .before .before .before .before .before .before .before .before .args .n) (c .before .before .before .before .before .before .before .before .before .before .before .args .row) (c .before .before .before .before .before .before .before .before .before .before .before .args .out) 2) (c .before .before .before .before .before .before .before .before .before .before .before .args .p .mask2) (sym (c .before .before .before .before .before .before .facet-mask2 .ensures) ∙ c .before .before .before .before .if3 .left), ne-eqb (c .before .before .before .before .before .before .before .before .before .before .before .args .n) 3 (c .before .before .before .if4 .left), ne-eqb (facetMask (c .before .before .before .before .before .before .before .before .before .before .before .args .n) (c .before .before .before .before .before .before .before .before .before .before .before .args .row) (c .before .before .before .before .before .before .before .before .before .before .before .args .out) 3) (c .before .before .before .before .before .before .before .before .before .before .before .args .p .mask3) (λ e. c .if5 .taken (c .before .before .facet-mask3 .ensures ∙ e))))
+    let start = c .before .before .before .before .before .before .before .before .before .before .before in
+    let first-mask = c .before .before .before .before .before .before .before .before .before .before .facet-mask in
+    let first-test = c .before .before .before .before .before .before .before .before .if1 in
+    let not-two = c .before .before .before .before .before .before .before .if2 in
+    let second-mask = c .before .before .before .before .before .before .facet-mask2 in
+    let second-test = c .before .before .before .before .if3 in
+    let not-three = c .before .before .before .if4 in
+    let third-mask = c .before .before .facet-mask3 in
+    third-differs (start .pre) (start .args .p) (first-mask .ensures) (first-test .left)
+    (not-two .left) (second-mask .ensures) (second-test .left) (not-three .left) (third-mask .ensures) (c .if5 .taken)
 
 returns-6 : tie.Need-returns-6
 returns-6 c =
-    sym
-    (masks-compared (c .before .before .before .before .before .before .before .before .before .before .before .args .n) (c .before .before .before .before .before .before .before .before .before .before .before .args .row) (c .before .before .before .before .before .before .before .before .before .before .before .args .out) (c .before .before .before .before .before .before .before .before .before .before .before .pre .0) (c .before .before .before .before .before .before .before .before .before .before .before .pre .1) (c .before .before .before .before .before .before .before .before .before .before .before .args .p)
-    ∙ rw (eq-eqb (facetMask (c .before .before .before .before .before .before .before .before .before .before .before .args .n) (c .before .before .before .before .before .before .before .before .before .before .before .args .row) (c .before .before .before .before .before .before .before .before .before .before .before .args .out) 1) (c .before .before .before .before .before .before .before .before .before .before .before .args .p .mask1) (sym (c .before .before .before .before .before .before .before .before .before .before .facet-mask .ensures) ∙ c .before .before .before .before .before .before .before .before .if1 .left), ne-eqb (c .before .before .before .before .before .before .before .before .before .before .before .args .n) 2 (c .before .before .before .before .before .before .before .if2 .left), eq-eqb (facetMask (c .before .before .before .before .before .before .before .before .before .before .before .args .n) (c .before .before .before .before .before .before .before .before .before .before .before .args .row) (c .before .before .before .before .before .before .before .before .before .before .before .args .out) 2) (c .before .before .before .before .before .before .before .before .before .before .before .args .p .mask2) (sym (c .before .before .before .before .before .before .facet-mask2 .ensures) ∙ c .before .before .before .before .if3 .left), ne-eqb (c .before .before .before .before .before .before .before .before .before .before .before .args .n) 3 (c .before .before .before .if4 .left), eq-eqb (facetMask (c .before .before .before .before .before .before .before .before .before .before .before .args .n) (c .before .before .before .before .before .before .before .before .before .before .before .args .row) (c .before .before .before .before .before .before .before .before .before .before .before .args .out) 3) (c .before .before .before .before .before .before .before .before .before .before .before .args .p .mask3) (sym (c .before .before .facet-mask3 .ensures) ∙ c .if5 .left)))
+    let start = c .before .before .before .before .before .before .before .before .before .before .before in
+    let first-mask = c .before .before .before .before .before .before .before .before .before .before .facet-mask in
+    let first-test = c .before .before .before .before .before .before .before .before .if1 in
+    let not-two = c .before .before .before .before .before .before .before .if2 in
+    let second-mask = c .before .before .before .before .before .before .facet-mask2 in
+    let second-test = c .before .before .before .before .if3 in
+    let not-three = c .before .before .before .if4 in
+    let third-mask = c .before .before .facet-mask3 in
+    same-of-four (start .pre) (start .args .p) (first-mask .ensures) (first-test .left)
+    (not-two .left) (second-mask .ensures) (second-test .left) (not-three .left) (third-mask .ensures) (c .if5 .left)
 
 pub same-masks-spec : {M : Type 1} → statement M
 same-masks-spec =
