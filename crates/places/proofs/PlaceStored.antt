@@ -87,7 +87,8 @@ bytes-length [] = refl
 bytes-length (x ∷ v) = omega (arith, bytes-length v)
 
 -- a coordinate behind those of v
-pub word-more : (b : List ℕ) (at : ℕ) {l m : List ℕ} {k : ℕ} (v : Grid.Vertex) (x : ℤ) → short x ≡ true → l ≡ sets b at (vertexBytes v) → k ≡ at + 2 * length v
+pub word-more : (b : List ℕ) (at : ℕ) {l m : List ℕ} {k : ℕ} (v : Grid.Vertex) (x : ℤ) → short x ≡ true
+    → l ≡ sets b at (vertexBytes v) → k ≡ at + 2 * length v
     → m ≡ sets l k (wordBytes (back x)) → m ≡ sets b at (vertexBytes (v ++ (x ∷ [])))
 word-more b at {k = k} v x s e f g =
     let place : k ≡ at + length (vertexBytes v) = omega (arith, bytes-length v) in

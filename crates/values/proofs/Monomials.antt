@@ -55,55 +55,80 @@ abbrev pub Factor : List ℕ → ℕ → ℕ → List ℤ → ℤ → Type 0
 Factor b i a p f = Is (coordinateLimit ^ exponentOf b i a) (power (base p) (exponentOf b i a)) f
 
 module _ {b : List ℕ} {i : ℕ} (e : Exponents b i) (n : ℕ) (px py pz pw : List ℤ) where
-  held : (a : ℕ) (p : List ℤ) {f : ℤ} → a < 4 → Factor b i a p f → Is (coordinateLimit ^ exponentOf b i a) (power (base p) (exponentOf b i a)) (back f)
-  held a p l j = holds-call j (power-word (exponentOf b i a) (e .each a l))
+  -- the exponent of an axis in term i, and the power of the axis's coordinate
+  abbrev exponent : ℕ → ℕ
+  exponent a = exponentOf b i a
 
+  abbrev part : ℕ → List ℤ → ℤ
+  part a p = power (base p) (exponentOf b i a)
+
+  held : (a : ℕ) (p : List ℤ) {f : ℤ} → a < 4 → Factor b i a p f → Is (coordinateLimit ^ exponent a) (part a p) (back f)
+  held a p l j = holds-call j (power-word (exponent a) (e .each a l))
+
+  -- the factors of the first two axes
   module _ {f g : ℤ} (j : Factor b i 0 px f) (k : Factor b i 1 py g) where
+    first : Is (coordinateLimit ^ exponent 0) (part 0 px) (back f)
+    first = held 0 px (lit≤ tt) j
+
+    second : Is (coordinateLimit ^ exponent 1) (part 1 py) (back g)
+    second = held 1 py (lit≤ tt) k
+
     pub two-fit : SFits w64 (back f *ℤ back g)
-    two-fit = powers-fit (exponentOf b i 0) (exponentOf b i 1) (omega (arith, e .sum)) (held 0 px (lit≤ tt) j) (held 1 py (lit≤ tt) k)
+    two-fit = powers-fit (exponent 0) (exponent 1) (omega (arith, e .sum)) first second
 
     pub two-powers : n ≡ 2 → Is monomialLimit (monomial b i 0 (tabled n px py pz pw)) (back (back f *ℤ back g))
     unfolding monomial tabled
     two-powers h =
-        let u = powers-product (exponentOf b i 0) (exponentOf b i 1) (omega (arith, e .sum)) (held 0 px (lit≤ tt) j) (held 1 py (lit≤ tt) k) in
+        let u = powers-product (exponent 0) (exponent 1) (omega (arith, e .sum)) first second in
         rw (h, mul-one) (is-weaken u (power-bound _ (omega (arith, e .sum))))
 
+    -- and of the third
     module _ {r : ℤ} (l : Factor b i 2 pz r) where
-      last-two : Is (coordinateLimit ^ (exponentOf b i 1 + exponentOf b i 2)) (power (base py) (exponentOf b i 1) ⊗ power (base pz) (exponentOf b i 2)) (back (back g *ℤ back r))
-      last-two = powers-product (exponentOf b i 1) (exponentOf b i 2) (omega (arith, e .sum)) (held 1 py (lit≤ tt) k) (held 2 pz (lit≤ tt) l)
+      third : Is (coordinateLimit ^ exponent 2) (part 2 pz) (back r)
+      third = held 2 pz (lit≤ tt) l
+
+      last-two : Is (coordinateLimit ^ (exponent 1 + exponent 2)) (part 1 py ⊗ part 2 pz) (back (back g *ℤ back r))
+      last-two = powers-product (exponent 1) (exponent 2) (omega (arith, e .sum)) second third
 
       pub three-fit-last : SFits w64 (back g *ℤ back r)
-      three-fit-last = powers-fit (exponentOf b i 1) (exponentOf b i 2) (omega (arith, e .sum)) (held 1 py (lit≤ tt) k) (held 2 pz (lit≤ tt) l)
+      three-fit-last = powers-fit (exponent 1) (exponent 2) (omega (arith, e .sum)) second third
 
       pub three-fit : SFits w64 (back f *ℤ back (back g *ℤ back r))
-      three-fit = powers-fit (exponentOf b i 0) (exponentOf b i 1 + exponentOf b i 2) (omega (arith, e .sum)) (held 0 px (lit≤ tt) j) last-two
+      three-fit = powers-fit (exponent 0) (exponent 1 + exponent 2) (omega (arith, e .sum)) first last-two
 
-      pub three-powers : n ≡ 3 → Is monomialLimit (monomial b i 0 (tabled n px py pz pw)) (back (back f *ℤ back (back g *ℤ back r)))
+      pub three-powers : n ≡ 3
+          → Is monomialLimit (monomial b i 0 (tabled n px py pz pw)) (back (back f *ℤ back (back g *ℤ back r)))
       unfolding monomial tabled
       three-powers h =
-          let u = powers-product (exponentOf b i 0) (exponentOf b i 1 + exponentOf b i 2) (omega (arith, e .sum)) (held 0 px (lit≤ tt) j) last-two in
+          let u = powers-product (exponent 0) (exponent 1 + exponent 2) (omega (arith, e .sum)) first last-two in
           rw (h, mul-one) (is-weaken u (power-bound _ (omega (arith, e .sum))))
 
+      -- and of the fourth
       module _ {t : ℤ} (o : Factor b i 3 pw t) where
-        upper : Is (coordinateLimit ^ (exponentOf b i 2 + exponentOf b i 3)) (power (base pz) (exponentOf b i 2) ⊗ power (base pw) (exponentOf b i 3)) (back (back r *ℤ back t))
-        upper = powers-product (exponentOf b i 2) (exponentOf b i 3) (omega (arith, e .sum)) (held 2 pz (lit≤ tt) l) (held 3 pw (lit≤ tt) o)
+        fourth : Is (coordinateLimit ^ exponent 3) (part 3 pw) (back t)
+        fourth = held 3 pw (lit≤ tt) o
 
-        last-three : Is (coordinateLimit ^ (exponentOf b i 1 + (exponentOf b i 2 + exponentOf b i 3))) (power (base py) (exponentOf b i 1) ⊗ (power (base pz) (exponentOf b i 2) ⊗ power (base pw) (exponentOf b i 3))) (back (back g *ℤ back (back r *ℤ back t)))
-        last-three = powers-product (exponentOf b i 1) (exponentOf b i 2 + exponentOf b i 3) (omega (arith, e .sum)) (held 1 py (lit≤ tt) k) upper
+        upper : Is (coordinateLimit ^ (exponent 2 + exponent 3)) (part 2 pz ⊗ part 3 pw) (back (back r *ℤ back t))
+        upper = powers-product (exponent 2) (exponent 3) (omega (arith, e .sum)) third fourth
+
+        last-three : Is (coordinateLimit ^ (exponent 1 + (exponent 2 + exponent 3))) (part 1 py ⊗ (part 2 pz ⊗ part 3 pw))
+            (back (back g *ℤ back (back r *ℤ back t)))
+        last-three = powers-product (exponent 1) (exponent 2 + exponent 3) (omega (arith, e .sum)) second upper
 
         pub four-fit-last : SFits w64 (back r *ℤ back t)
-        four-fit-last = powers-fit (exponentOf b i 2) (exponentOf b i 3) (omega (arith, e .sum)) (held 2 pz (lit≤ tt) l) (held 3 pw (lit≤ tt) o)
+        four-fit-last = powers-fit (exponent 2) (exponent 3) (omega (arith, e .sum)) third fourth
 
         pub four-fit-upper : SFits w64 (back g *ℤ back (back r *ℤ back t))
-        four-fit-upper = powers-fit (exponentOf b i 1) (exponentOf b i 2 + exponentOf b i 3) (omega (arith, e .sum)) (held 1 py (lit≤ tt) k) upper
+        four-fit-upper = powers-fit (exponent 1) (exponent 2 + exponent 3) (omega (arith, e .sum)) second upper
 
         pub four-fit : SFits w64 (back f *ℤ back (back g *ℤ back (back r *ℤ back t)))
-        four-fit = powers-fit (exponentOf b i 0) (exponentOf b i 1 + (exponentOf b i 2 + exponentOf b i 3)) (omega (arith, e .sum)) (held 0 px (lit≤ tt) j) last-three
+        four-fit = powers-fit (exponent 0) (exponent 1 + (exponent 2 + exponent 3)) (omega (arith, e .sum)) first last-three
 
-        pub four-powers : n ≡ 4 → Is monomialLimit (monomial b i 0 (tabled n px py pz pw)) (back (back f *ℤ back (back g *ℤ back (back r *ℤ back t))))
+        pub four-powers : n ≡ 4
+            → Is monomialLimit (monomial b i 0 (tabled n px py pz pw)) (back (back f *ℤ back (back g *ℤ back (back r *ℤ back t))))
         unfolding monomial tabled
         four-powers h =
-            let u = powers-product (exponentOf b i 0) (exponentOf b i 1 + (exponentOf b i 2 + exponentOf b i 3)) (omega (arith, e .sum)) (held 0 px (lit≤ tt) j) last-three in
+            let u = powers-product (exponent 0) (exponent 1 + (exponent 2 + exponent 3)) (omega (arith, e .sum)) first last-three in
             rw (h, mul-one) (is-weaken u (power-bound _ (omega (arith, e .sum))))
 
 -- ---- a term

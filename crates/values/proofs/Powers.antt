@@ -92,12 +92,21 @@ module _ {x : ℤ} (s : Size coordinateLimit x) where
   unfolding degreeLimit
   fourth-fits = power-fits 3 (lit< tt) cube-is
 
-  pub powers-of : PowersOf x (pos 1 ∷ back x ∷ back (back x *ℤ back x) ∷ back (back x *ℤ back (back x *ℤ back x)) ∷ back (back x *ℤ back (back x *ℤ back (back x *ℤ back x))) ∷ [])
+  -- the entries as the code multiplies them
+  abbrev square : ℤ
+  square = back (back x *ℤ back x)
+
+  abbrev cube : ℤ
+  cube = back (back x *ℤ square)
+
+  abbrev table : List ℤ
+  table = pos 1 ∷ back x ∷ square ∷ cube ∷ back (back x *ℤ cube) ∷ []
+
+  pub powers-of : PowersOf x table
   powers-of = record { count = refl; power-at = at }
     where
       at : (e : ℕ) → e ≤ degreeLimit
-          → Is (coordinateLimit ^ e) (power x e)
-          (getD (pos 1 ∷ back x ∷ back (back x *ℤ back x) ∷ back (back x *ℤ back (back x *ℤ back x)) ∷ back (back x *ℤ back (back x *ℤ back (back x *ℤ back x))) ∷ []) e 0ℤ)
+          → Is (coordinateLimit ^ e) (power x e) (getD table e 0ℤ)
       at zero l = one-is
       at (suc zero) l = itself-is
       at (suc (suc zero)) l = square-is

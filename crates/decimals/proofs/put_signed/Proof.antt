@@ -20,9 +20,13 @@ same-length c = search needs
 
 returns : tie.Need-returns
 returns c =
-    let s = c .before .before .before .before .before .before .before .before .before .before .before in
-    writes-as (text-under (s .args .z) (s .fits .z) (c .before .before .before .before .before .before .before .before .if1 .taken) (c .before .before .before .before .before .before .before .before .before .size .ensures)) (omega arith)
-    (writes-then (omega arith) (c .before .before .before .before .before .before .put-byte .ensures) (λ i. c .before .before .put-decimal .ensures))
+    let digits = c .before .before in
+    let sign = digits .before .before .before .before in
+    let tested = sign .before .before in
+    let sized = tested .before in
+    let start = sized .before .before in
+    writes-as (text-under (start .args .z) (start .fits .z) (tested .if1 .taken) (sized .size .ensures)) (omega arith)
+    (writes-then (omega arith) (sign .put-byte .ensures) (λ i. digits .put-decimal .ensures))
 
 put-decimal-requires-2 : tie.Need-put-decimal-requires-2
 put-decimal-requires-2 c κs = search needs
@@ -32,9 +36,12 @@ same-length-2 c = search needs
 
 returns-2 : tie.Need-returns-2
 returns-2 c =
-    let s = c .before .before .before .before .before .before .before in
-    writes-as (text-from (s .args .z) (s .fits .z) (c .before .before .before .before .if1 .left) (c .before .before .before .before .before .size .ensures)) (omega arith)
-    (c .before .before .put-decimal2 .ensures)
+    let digits = c .before .before in
+    let tested = digits .before .before in
+    let sized = tested .before in
+    let start = sized .before .before in
+    writes-as (text-from (start .args .z) (start .fits .z) (tested .if1 .left) (sized .size .ensures)) (omega arith)
+    (digits .put-decimal2 .ensures)
 
 pub put-signed-spec : {M : Type 1} → statement M
 put-signed-spec =

@@ -23,7 +23,9 @@ low c = rw (limit-is (c .before .before .before .before .before .args .n) (c .be
 
 -- and holds the one before
 held : (c : tie.Else2 Inv-loop μ-loop)
-    → holds (c .before .before .before .before .before .before .before .args .n) (c .before .before .before .byte .result) (c .before .before .before .before .before .loop .before) ≡ true
+    → let seen = c .before .before in
+    let turn = seen .before .before .before in
+    holds (turn .before .before .args .n) (seen .before .byte .result) (turn .loop .before) ≡ true
 held c = test-passed (c .before .holds .ensures _ (c .before .before .before .before .before .loop .inv .0)) (c .if2 .left)
 
 shl-limit : tie.Need-shl-limit Inv-loop μ-loop

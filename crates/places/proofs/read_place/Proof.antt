@@ -38,10 +38,18 @@ byte-requires c κs = search needs
 
 returns : tie.Need-returns
 returns c =
-    place-read (c .before .before .before .before .before .before .before .before .before .pre .0)
-    (holds-call (c .before .before .before .before .before .before .before .coordinate .ensures) (lit≤ tt)) (holds-call (c .before .before .before .before .before .before .coordinate2 .ensures) (lit≤ tt))
-    (holds-call (c .before .before .before .before .before .coordinate3 .ensures) (lit≤ tt)) (holds-call (c .before .before .before .before .coordinate4 .ensures) (lit≤ tt))
-    (c .before .before .before .mask .ensures) (c .before .before .mask2 .ensures) (c .before .mask3 .ensures) (c .byte .ensures)
+    let read-third = c .before in
+    let read-second = read-third .before in
+    let read-first = read-second .before in
+    let read-w = read-first .before in
+    let read-z = read-w .before in
+    let read-y = read-z .before in
+    let read-x = read-y .before in
+    let start = read-x .before .before in
+    place-read (start .pre .0) (holds-call (read-x .coordinate .ensures) (lit≤ tt))
+    (holds-call (read-y .coordinate2 .ensures) (lit≤ tt)) (holds-call (read-z .coordinate3 .ensures) (lit≤ tt))
+    (holds-call (read-w .coordinate4 .ensures) (lit≤ tt)) (read-first .mask .ensures) (read-second .mask2 .ensures)
+    (read-third .mask3 .ensures) (c .byte .ensures)
 
 pub read-place-spec : {M : Type 1} → statement M
 read-place-spec =

@@ -16,7 +16,12 @@ add-put-masks : tie.Need-add-put-masks
 add-put-masks c = search needs
 
 put-masks-requires : tie.Need-put-masks-requires
-put-masks-requires c κs = (c .before .before .before .before .before .before .pre .0 .axes, (fits-masks (c .before .before .before .before .before .before .pre .0), omega (arith, c .before .before .before .before .before .before .pre .1, c .before .before .before .before .before .before .pre .0 .axes .low, c .before .before .before .put-vertex .kept)))
+put-masks-requires c κs =
+    let vertex-put = c .before .before .before in
+    let start = vertex-put .before .before .before in (
+      start .pre .0 .axes,
+      (fits-masks (start .pre .0), omega (arith, start .pre .1, start .pre .0 .axes .low, vertex-put .put-vertex .kept)),
+    )
 
 mul-put-byte : tie.Need-mul-put-byte
 mul-put-byte c = search needs
@@ -28,13 +33,25 @@ sub-put-byte : tie.Need-sub-put-byte
 sub-put-byte c = search needs
 
 put-byte-requires : tie.Need-put-byte-requires
-put-byte-requires c κs = (omega (arith, fits-side (c .before .before .before .before .before .before .before .before .before .before .pre .0)), omega (arith, c .before .before .before .before .before .before .before .before .before .before .pre .1, c .before .before .before .before .before .before .before .before .before .before .pre .0 .axes .low, c .before .before .before .before .before .before .before .put-vertex .kept, c .before .before .before .put-masks .kept))
+put-byte-requires c κs =
+    let masks-put = c .before .before .before in
+    let vertex-put = masks-put .before .before .before .before in
+    let start = vertex-put .before .before .before in (
+      omega (arith, fits-side (start .pre .0)),
+      omega (arith, start .pre .1, start .pre .0 .axes .low, vertex-put .put-vertex .kept, masks-put .put-masks .kept),
+    )
 
 same-length : tie.Need-same-length
 same-length c = search needs
 
 returns : tie.Need-returns
-returns c = place-stored (c .before .before .before .before .before .before .before .before .before .before .before .before .before .pre .0) _ _ (c .before .before .before .before .before .before .before .before .before .before .put-vertex .ensures) (c .before .before .before .before .before .before .put-masks .ensures) refl (c .before .before .put-byte .ensures)
+returns c =
+    let side-put = c .before .before in
+    let masks-put = side-put .before .before .before .before in
+    let vertex-put = masks-put .before .before .before .before in
+    let start = vertex-put .before .before .before in
+    place-stored (start .pre .0) _ _ (vertex-put .put-vertex .ensures) (masks-put .put-masks .ensures) refl
+    (side-put .put-byte .ensures)
 
 pub write-place-spec : {M : Type 1} → statement M
 write-place-spec =

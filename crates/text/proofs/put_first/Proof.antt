@@ -31,14 +31,19 @@ same-length c = search needs
 returns : tie.Need-returns
 unfolding firstLine
 returns c =
-    let t6 = c .before .before in
-    let t5 = t6 .before .before .before .before in
-    let t4 = t5 .before .before .before .before in
-    let t3 = t4 .before .before .before .before in
-    let t2 = t3 .before .before .before .before in
-    let t1 = t2 .before .before .before .before in
+    let last = c .before .before in
+    let count = last .before .before .before .before in
+    let second-blank = count .before .before .before .before in
+    let verdict = second-blank .before .before .before .before in
+    let first-blank = verdict .before .before .before .before in
+    let dimension = first-blank .before .before .before .before in
     writes-as refl (omega arith)
-    (writes-then (omega arith) (t1 .put-decimal .ensures) (λ i. writes-then i (t2 .put-byte .ensures) (λ i. writes-then i (t3 .put-verdict .ensures) (λ i. writes-then i (t4 .put-byte2 .ensures) (λ i. writes-then i (t5 .put-decimal2 .ensures) (λ i. t6 .put-byte3 .ensures))))))
+    (writes-then (omega arith) (dimension .put-decimal .ensures)
+    (λ i. writes-then i (first-blank .put-byte .ensures)
+    (λ i. writes-then i (verdict .put-verdict .ensures)
+    (λ i. writes-then i (second-blank .put-byte2 .ensures)
+    (λ i. writes-then i (count .put-decimal2 .ensures)
+    (λ i. last .put-byte3 .ensures))))))
 
 pub put-first-spec : {M : Type 1} → statement M
 put-first-spec =

@@ -16,8 +16,10 @@ same-length c = search needs
 
 returns : tie.Need-returns
 returns c =
-    let s = c .before .before .before .before .before .before in
-    writes-as (one-shown (s .args .m) (pos (s .args .mask1)) (pos (s .args .mask2)) (pos (s .args .mask3)) refl (c .if1 .taken)) (omega arith) (c .before .before .before .put-mask .ensures)
+    let first = c .before .before .before in
+    let given = first .before .before .before .args in
+    writes-as (one-shown (given .m) (pos (given .mask1)) (pos (given .mask2)) (pos (given .mask3)) refl (c .if1 .taken))
+    (omega arith) (first .put-mask .ensures)
 
 put-mask-requires-2 : tie.Need-put-mask-requires-2
 put-mask-requires-2 c κs = search needs
@@ -27,9 +29,11 @@ same-length-2 c = search needs
 
 returns-2 : tie.Need-returns-2
 returns-2 c =
-    let s = c .before .before .before .before .before .before .before .before .before .before .before in
-    writes-as (two-shown (s .args .m) (pos (s .args .mask1)) (pos (s .args .mask2)) (pos (s .args .mask3)) refl refl (c .if2 .taken)) (omega arith)
-    (writes-then (omega arith) (c .before .before .before .before .before .before .before .before .put-mask .ensures) (λ i. c .before .before .before .put-mask2 .ensures))
+    let second = c .before .before .before in
+    let first = second .before .before .before .before .before in
+    let given = first .before .before .before .args in
+    writes-as (two-shown (given .m) (pos (given .mask1)) (pos (given .mask2)) (pos (given .mask3)) refl refl (c .if2 .taken))
+    (omega arith) (writes-then (omega arith) (first .put-mask .ensures) (λ i. second .put-mask2 .ensures))
 
 put-mask-requires-3 : tie.Need-put-mask-requires-3
 put-mask-requires-3 c κs = search needs
@@ -39,10 +43,19 @@ same-length-3 c = search needs
 
 returns-3 : tie.Need-returns-3
 returns-3 c =
-    let s = c .before .before .before .before .before .before .before .before .before .before .before .before .before .before .before in
+    let third = c .before .before in
+    let above-two = third .before .before in
+    let second = above-two .before .before .before in
+    let above-one = second .before .before in
+    let first = above-one .before .before .before in
+    let start = first .before .before .before in
+    let given = start .args in
     writes-as
-    (three-shown (s .args .m) (pos (s .args .mask1)) (pos (s .args .mask2)) (pos (s .args .mask3)) refl refl (s .pre .0) (c .before .before .before .before .before .before .before .before .before .if1 .left) (c .before .before .before .before .if2 .left) refl)
-    (omega arith) (writes-then (omega arith) (c .before .before .before .before .before .before .before .before .before .before .before .before .put-mask .ensures) (λ i. writes-then i (c .before .before .before .before .before .before .before .put-mask2 .ensures) (λ i. c .before .before .put-mask3 .ensures)))
+    (three-shown (given .m) (pos (given .mask1)) (pos (given .mask2)) (pos (given .mask3)) refl refl
+    (start .pre .0) (above-one .if1 .left) (above-two .if2 .left) refl)
+    (omega arith)
+    (writes-then (omega arith) (first .put-mask .ensures)
+    (λ i. writes-then i (second .put-mask2 .ensures) (λ i. third .put-mask3 .ensures)))
 
 pub put-masks-spec : {M : Type 1} → statement M
 put-masks-spec =

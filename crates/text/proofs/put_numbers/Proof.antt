@@ -15,8 +15,11 @@ same-length c = search needs
 
 returns : tie.Need-returns
 returns c =
-    let s = c .before .before .before .before .before .before in
-    writes-as (one-shown (s .args .m) (s .args .u) (s .args .v) (s .args .w) (bits-are (s .fits .u)) (c .if1 .taken)) (omega arith) (c .before .before .before .put-next .ensures)
+    let first = c .before .before .before in
+    let start = first .before .before .before in
+    let given = start .args in
+    writes-as (one-shown (given .m) (given .u) (given .v) (given .w) (bits-are (start .fits .u)) (c .if1 .taken))
+    (omega arith) (first .put-next .ensures)
 
 put-next-requires-2 : tie.Need-put-next-requires-2
 put-next-requires-2 c κs = search needs
@@ -26,9 +29,14 @@ same-length-2 c = search needs
 
 returns-2 : tie.Need-returns-2
 returns-2 c =
-    let s = c .before .before .before .before .before .before .before .before .before .before .before in
-    writes-as (two-shown (s .args .m) (s .args .u) (s .args .v) (s .args .w) (bits-are (s .fits .u)) (bits-are (s .fits .v)) (c .if2 .taken)) (omega arith)
-    (writes-then (omega arith) (c .before .before .before .before .before .before .before .before .put-next .ensures) (λ i. c .before .before .before .put-next2 .ensures))
+    let second = c .before .before .before in
+    let first = second .before .before .before .before .before in
+    let start = first .before .before .before in
+    let given = start .args in
+    writes-as
+    (two-shown (given .m) (given .u) (given .v) (given .w)
+    (bits-are (start .fits .u)) (bits-are (start .fits .v)) (c .if2 .taken))
+    (omega arith) (writes-then (omega arith) (first .put-next .ensures) (λ i. second .put-next2 .ensures))
 
 put-next-requires-3 : tie.Need-put-next-requires-3
 put-next-requires-3 c κs = search needs
@@ -38,10 +46,19 @@ same-length-3 c = search needs
 
 returns-3 : tie.Need-returns-3
 returns-3 c =
-    let s = c .before .before .before .before .before .before .before .before .before .before .before .before .before .before .before in
+    let third = c .before .before in
+    let above-two = third .before .before in
+    let second = above-two .before .before .before in
+    let above-one = second .before .before in
+    let first = above-one .before .before .before in
+    let start = first .before .before .before in
+    let given = start .args in
     writes-as
-    (three-shown (s .args .m) (s .args .u) (s .args .v) (s .args .w) (bits-are (s .fits .u)) (bits-are (s .fits .v)) (s .pre .0) (c .before .before .before .before .before .before .before .before .before .if1 .left) (c .before .before .before .before .if2 .left) (bits-are (s .fits .w)))
-    (omega arith) (writes-then (omega arith) (c .before .before .before .before .before .before .before .before .before .before .before .before .put-next .ensures) (λ i. writes-then i (c .before .before .before .before .before .before .before .put-next2 .ensures) (λ i. c .before .before .put-next3 .ensures)))
+    (three-shown (given .m) (given .u) (given .v) (given .w) (bits-are (start .fits .u)) (bits-are (start .fits .v))
+    (start .pre .0) (above-one .if1 .left) (above-two .if2 .left) (bits-are (start .fits .w)))
+    (omega arith)
+    (writes-then (omega arith) (first .put-next .ensures)
+    (λ i. writes-then i (second .put-next2 .ensures) (λ i. third .put-next3 .ensures)))
 
 pub put-numbers-spec : {M : Type 1} → statement M
 put-numbers-spec =

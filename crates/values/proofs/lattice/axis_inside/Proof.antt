@@ -25,8 +25,11 @@ signed-word-requires-2 c κs = search needs
 returns : tie.Need-returns
 unfolding lowEnd highEnd
 returns c =
-    axis-from _ _ _ _ _ _ (toZ-ofZ w64 _ (c .before .before .before .before .fits .x)) (end-number (c .before .before .signed-word .ensures)) (end-number (c .signed-word2 .ensures))
-    (c .before .if1 .taken)
+    let from-low = c .before in
+    let low = from-low .before in
+    let start = low .before .before in
+    axis-from _ _ _ _ _ _ (toZ-ofZ w64 _ (start .fits .x))
+    (end-number (low .signed-word .ensures)) (end-number (c .signed-word2 .ensures)) (from-low .if1 .taken)
 
 returns-2 : tie.Need-returns-2
 unfolding lowEnd

@@ -5,39 +5,68 @@ use Rattle.values.proofs.lattice.moved.Statement.{statement}
 use Rattle.values.proofs.lattice.moved.Tie as tie
 
 add-t9 : tie.Need-add-t9
-add-t9 c = move-fits (c .before .before .before .before .before .pre .0 .x) (c .before .before .before .before .before .pre .1) (unit-back (c .before .before .before .before .before .pre .1))
+add-t9 c =
+    let start = c .before .before .before .before .before in
+    let unit = start .pre .1 in
+    move-fits (start .pre .0 .x) unit (unit-back unit)
 
 returns : tie.Need-returns
 returns c =
-    moved-first _ (c .before .before .before .before .before .pre .1) (c .if1 .taken) (move-is (c .before .before .before .before .before .pre .0 .x) (c .before .before .before .before .before .pre .1) (unit-back (c .before .before .before .before .before .pre .1)) .is)
-    (kept-back (c .before .before .before .before .before .pre .0 .y)) (kept-back (c .before .before .before .before .before .pre .0 .z)) (kept-back (c .before .before .before .before .before .pre .0 .w))
+    let start = c .before .before .before .before .before in
+    let near = start .pre .0 in
+    let unit = start .pre .1 in
+    moved-first _ unit (c .if1 .taken)
+    (move-is (near .x) unit (unit-back unit) .is) (kept-back (near .y)) (kept-back (near .z)) (kept-back (near .w))
 
 add-t10 : tie.Need-add-t10
-add-t10 c = move-fits (c .before .before .before .before .before .before .pre .0 .y) (c .before .before .before .before .before .before .pre .1) (unit-back (c .before .before .before .before .before .before .pre .1))
+add-t10 c =
+    let start = c .before .before .before .before .before .before in
+    let unit = start .pre .1 in
+    move-fits (start .pre .0 .y) unit (unit-back unit)
 
 returns-2 : tie.Need-returns-2
 returns-2 c =
-    moved-second _ (c .before .before .before .before .before .before .pre .1) (c .if2 .taken) (kept-back (c .before .before .before .before .before .before .pre .0 .x))
-    (move-is (c .before .before .before .before .before .before .pre .0 .y) (c .before .before .before .before .before .before .pre .1) (unit-back (c .before .before .before .before .before .before .pre .1)) .is) (kept-back (c .before .before .before .before .before .before .pre .0 .z)) (kept-back (c .before .before .before .before .before .before .pre .0 .w))
+    let start = c .before .before .before .before .before .before in
+    let near = start .pre .0 in
+    let unit = start .pre .1 in
+    moved-second _ unit (c .if2 .taken)
+    (kept-back (near .x)) (move-is (near .y) unit (unit-back unit) .is) (kept-back (near .z)) (kept-back (near .w))
 
 add-t11 : tie.Need-add-t11
-add-t11 c = move-fits (c .before .before .before .before .before .before .before .pre .0 .z) (c .before .before .before .before .before .before .before .pre .1) (unit-back (c .before .before .before .before .before .before .before .pre .1))
+add-t11 c =
+    let start = c .before .before .before .before .before .before .before in
+    let unit = start .pre .1 in
+    move-fits (start .pre .0 .z) unit (unit-back unit)
 
 returns-3 : tie.Need-returns-3
 returns-3 c =
-    moved-third _ (c .before .before .before .before .before .before .before .pre .1) (c .if3 .taken) (kept-back (c .before .before .before .before .before .before .before .pre .0 .x)) (kept-back (c .before .before .before .before .before .before .before .pre .0 .y))
-    (move-is (c .before .before .before .before .before .before .before .pre .0 .z) (c .before .before .before .before .before .before .before .pre .1) (unit-back (c .before .before .before .before .before .before .before .pre .1)) .is) (kept-back (c .before .before .before .before .before .before .before .pre .0 .w))
+    let start = c .before .before .before .before .before .before .before in
+    let near = start .pre .0 in
+    let unit = start .pre .1 in
+    moved-third _ unit (c .if3 .taken)
+    (kept-back (near .x)) (kept-back (near .y)) (move-is (near .z) unit (unit-back unit) .is) (kept-back (near .w))
 
 add-t12 : tie.Need-add-t12
-add-t12 c = move-fits (c .before .before .before .before .before .before .before .before .pre .0 .w) (c .before .before .before .before .before .before .before .before .pre .1) (unit-back (c .before .before .before .before .before .before .before .before .pre .1))
+add-t12 c =
+    let start = c .before .before .before .before .before .before .before .before in
+    let unit = start .pre .1 in
+    move-fits (start .pre .0 .w) unit (unit-back unit)
 
 returns-4 : tie.Need-returns-4
 returns-4 c =
-    moved-fourth _ (c .before .before .before .before .before .before .before .before .pre .1) (c .if4 .taken) (kept-back (c .before .before .before .before .before .before .before .before .pre .0 .x)) (kept-back (c .before .before .before .before .before .before .before .before .pre .0 .y)) (kept-back (c .before .before .before .before .before .before .before .before .pre .0 .z))
-    (move-is (c .before .before .before .before .before .before .before .before .pre .0 .w) (c .before .before .before .before .before .before .before .before .pre .1) (unit-back (c .before .before .before .before .before .before .before .before .pre .1)) .is)
+    let start = c .before .before .before .before .before .before .before .before in
+    let near = start .pre .0 in
+    let unit = start .pre .1 in
+    moved-fourth _ unit (c .if4 .taken)
+    (kept-back (near .x)) (kept-back (near .y)) (kept-back (near .z)) (move-is (near .w) unit (unit-back unit) .is)
 
 returns-5 : tie.Need-returns-5
-returns-5 c = moved-past _ (c .before .before .before .before .before .before .before .before .pre .1) (omega (arith, c .before .before .before .if1 .left, c .before .before .if2 .left, c .before .if3 .left, c .if4 .left))
+returns-5 c =
+    let third = c .before in
+    let second = third .before in
+    let first = second .before in
+    let start = first .before .before .before .before .before in
+    moved-past _ (start .pre .1) (omega (arith, first .if1 .left, second .if2 .left, third .if3 .left, c .if4 .left))
 
 pub moved-spec : {M : Type 1} → statement M
 moved-spec =

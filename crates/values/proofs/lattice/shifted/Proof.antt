@@ -18,8 +18,14 @@ plus-bit-requires-4 c κs = back-size (c .before .before .before .before .before
 
 returns : tie.Need-returns
 returns c =
-    shifted-is (c .before .before .before .before .before .before .before .before .args .mask) (moved-back _ (c .before .before .before .before .before .before .before .before .pre .x) (c .before .before .before .before .before .before .plus-bit .ensures)) (moved-back _ (c .before .before .before .before .before .before .before .before .pre .y) (c .before .before .before .before .plus-bit2 .ensures))
-    (moved-back _ (c .before .before .before .before .before .before .before .before .pre .z) (c .before .before .plus-bit3 .ensures)) (moved-back _ (c .before .before .before .before .before .before .before .before .pre .w) (c .plus-bit4 .ensures))
+    let third = c .before .before in
+    let second = third .before .before in
+    let first = second .before .before in
+    let start = first .before .before in
+    let near = start .pre in
+    shifted-is (start .args .mask)
+    (moved-back _ (near .x) (first .plus-bit .ensures)) (moved-back _ (near .y) (second .plus-bit2 .ensures))
+    (moved-back _ (near .z) (third .plus-bit3 .ensures)) (moved-back _ (near .w) (c .plus-bit4 .ensures))
 
 pub shifted-spec : {M : Type 1} → statement M
 shifted-spec =

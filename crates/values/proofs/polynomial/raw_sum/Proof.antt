@@ -19,11 +19,27 @@ powers-requires-4 : tie.Need-powers-requires-4
 powers-requires-4 c κs = λ l. back-size (c .before .before .before .before .before .before .before .before .pre .1 .w l) coordinate-word
 
 sum-of-requires : tie.Need-sum-of-requires
-sum-of-requires c κs = (c .before .before .before .before .before .before .before .before .before .before .before .before .before .pre .0, tables (c .before .before .before .before .before .before .before .before .before .before .before .before .before .pre .0 .axes) (c .before .before .before .before .before .before .before .before .before .before .before .before .before .pre .1) (c .before .before .before .before .before .before .before .before .before .before .powers .ensures) (c .before .before .before .before .before .before .before .before .powers2 .ensures) (c .before .before .before .before .before .before .powers3 .ensures) (c .before .before .before .before .powers4 .ensures))
+sum-of-requires c κs =
+    let of-w = c .before .before .before .before in
+    let of-z = of-w .before .before in
+    let of-y = of-z .before .before in
+    let of-x = of-y .before .before in
+    let start = of-x .before .before .before in (
+      start .pre .0,
+      tables (start .pre .0 .axes) (start .pre .1)
+          (of-x .powers .ensures) (of-y .powers2 .ensures) (of-z .powers3 .ensures) (of-w .powers4 .ensures),
+    )
 
 returns : tie.Need-returns
 returns c =
-    sum-at _ (tabled-is (c .before .before .before .before .before .before .before .before .before .before .before .before .before .before .pre .0 .axes) (c .before .before .before .before .before .before .before .before .before .before .before .before .before .before .pre .1) (c .before .before .before .before .before .before .before .before .before .before .before .powers .ensures) (c .before .before .before .before .before .before .before .before .before .powers2 .ensures) (c .before .before .before .before .before .before .before .powers3 .ensures) (c .before .before .before .before .before .powers4 .ensures))
+    let of-w = c .before .before .before .before .before in
+    let of-z = of-w .before .before in
+    let of-y = of-z .before .before in
+    let of-x = of-y .before .before in
+    let start = of-x .before .before .before in
+    sum-at _
+    (tabled-is (start .pre .0 .axes) (start .pre .1)
+    (of-x .powers .ensures) (of-y .powers2 .ensures) (of-z .powers3 .ensures) (of-w .powers4 .ensures))
     (c .sum-of .ensures)
 
 pub raw-sum-spec : {M : Type 1} → statement M

@@ -16,11 +16,15 @@ monomial-requires c κs = c .before .before .pre
 
 mul-result : tie.Need-mul-result
 unfolding coefficientOf
-mul-result c = term-fits _ (exponents (c .before .before .before .pre .0 .0) _ (c .before .before .before .pre .0 .1)) (c .before .signed-double-word .ensures .is) (c .monomial .ensures)
+mul-result c =
+    term-fits _ (exponents (c .before .before .before .pre .0 .0) _ (c .before .before .before .pre .0 .1))
+    (c .before .signed-double-word .ensures .is) (c .monomial .ensures)
 
 returns : tie.Need-returns
 unfolding coefficientOf
-returns c = term-product _ (exponents (c .before .before .before .pre .0 .0) _ (c .before .before .before .pre .0 .1)) (c .before .signed-double-word .ensures .is) (c .monomial .ensures)
+returns c =
+    term-product _ (exponents (c .before .before .before .pre .0 .0) _ (c .before .before .before .pre .0 .1))
+    (c .before .signed-double-word .ensures .is) (c .monomial .ensures)
 
 pub term-value-spec : {M : Type 1} → statement M
 term-value-spec =
