@@ -28,29 +28,44 @@ refused-requires-2 c κs = search needs
 
 returns-2 : tie.Need-returns-2
 returns-2 c =
-    let malformed = sym (c .before .before .place-ok .ensures) ∙ not-true (c .before .before .place-ok .result) (c .before .if2 .taken) in
-    place-refused _ _ (c .before .before .before .before .before .before .pre .0) (c .before .before .before .before .before .before .pre .1) (wrong-form _ _ (c .before .before .before .if1 .left) malformed) (c .refused2 .ensures)
+    place-refused _ _ (c .before .before .before .before .before .before .pre .0) (c .before .before .before .before .before .before .pre .1)
+    (wrong-form _ _ (c .before .before .before .if1 .left) (sym (c .before .before .place-ok .ensures) ∙ not-true (c .before .before .place-ok .result) (c .before .if2 .taken)))
+    (c .refused2 .ensures)
 
 read-place-requires : tie.Need-read-place-requires
 read-place-requires c κs = search needs
 
 facet-values-requires : tie.Need-facet-values-requires
 unfolding moveLimit
-facet-values-requires c κs =
-    (c .before .before .before .before .before .before .before .pre .0, (vertex-wider (c .before .read-place .ensures .size) (lit≤ tt), (c .before .before .before .before .before .before .before .pre .1)))
+facet-values-requires c κs = (
+  c .before .before .before .before .before .before .before .pre .0,
+  (vertex-wider (c .before .read-place .ensures .size) (lit≤ tt), c .before .before .before .before .before .before .before .pre .1),
+)
 
 refused-requires-3 : tie.Need-refused-requires-3
 refused-requires-3 c κs = search needs
 
 returns-3 : tie.Need-returns-3
 returns-3 c =
-    let well-formed = sym (c .before .before .before .before .before .before .place-ok .ensures) ∙ not-false (c .before .before .before .before .before .before .place-ok .result) (c .before .before .before .before .before .if2 .left) in
-    facet-refused (c .before .before .before .before .before .before .before .before .before .before .pre .0) (c .before .before .before .before .before .before .before .if1 .left) well-formed (c .before .before .before .before .read-place .ensures) (c .before .before .facet-values .ensures) _ (c .before .if3 .taken) (c .refused3 .ensures)
+    facet-refused
+    (c .before .before .before .before .before .before .before .before .before .before .pre .0)
+    (c .before .before .before .before .before .before .before .if1 .left)
+    (sym (c .before .before .before .before .before .before .place-ok .ensures) ∙ not-false (c .before .before .before .before .before .before .place-ok .result) (c .before .before .before .before .before .if2 .left))
+    (c .before .before .before .before .read-place .ensures)
+    (c .before .before .facet-values .ensures)
+    _
+    (c .before .if3 .taken)
+    (c .refused3 .ensures)
 
 returns-4 : tie.Need-returns-4
 returns-4 c =
-    let well-formed = sym (c .before .before .before .before .before .place-ok .ensures) ∙ not-false (c .before .before .before .before .before .place-ok .result) (c .before .before .before .before .if2 .left) in
-    place-found (c .before .before .before .before .before .before .before .before .before .pre .0) (c .before .before .before .before .before .before .if1 .left) well-formed (c .before .before .before .read-place .ensures) (c .before .facet-values .ensures) (c .if3 .left)
+    place-found
+    (c .before .before .before .before .before .before .before .before .before .pre .0)
+    (c .before .before .before .before .before .before .if1 .left)
+    (sym (c .before .before .before .before .before .place-ok .ensures) ∙ not-false (c .before .before .before .before .before .place-ok .result) (c .before .before .before .before .if2 .left))
+    (c .before .before .before .read-place .ensures)
+    (c .before .facet-values .ensures)
+    (c .if3 .left)
 
 pub place-in-spec : {M : Type 1} → statement M
 place-in-spec =
