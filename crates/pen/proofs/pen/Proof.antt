@@ -70,7 +70,12 @@ returns-4 c =
 part-move-to-end : tie.Need-part-move-to-end
 part-move-to-end c =
     let axes = job-axes (job (c .before .before .before .before)) in
-    place-ends (3 * c .before .before .before .before .opened-dimension .result) _ (c .before .before .before .before .before .before .before .before .before .args .places .now) (omega arith) (c .if4 .left)
+    place-ends
+    (3 * c .before .before .before .before .opened-dimension .result)
+    (c .before .before .before .before .before .before .before .before .before .args .k)
+    (c .before .before .before .before .before .before .before .before .before .args .places .now)
+    (omega arith)
+    (c .if4 .left)
 
 mul-from : tie.Need-mul-from
 mul-from c = omega (arith, part-move-to-end c)
