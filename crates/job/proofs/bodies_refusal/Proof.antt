@@ -44,10 +44,11 @@ left-start c =
 abbrev startOk : ℕ → List ℕ → Bool
 startOk n b = placeOk n (decodePlace n b)
 
-abbrev startOf : tie.Start → List ℕ
-startOf start = body (start .args .job .now) (start .args .n)
+-- that test of the job's start
+abbrev jobStartOk : tie.Start → Bool
+jobStartOk start = startOk (start .args .n) (body (start .args .job .now) (start .args .n))
 
-start-test : (c : tie.After-place-ok) → c .place-ok .result ≡ startOk (c .before .before .before .before .before .before .before .before .before .before .args .n) (startOf (c .before .before .before .before .before .before .before .before .before .before))
+start-test : (c : tie.After-place-ok) → c .place-ok .result ≡ jobStartOk (c .before .before .before .before .before .before .before .before .before .before)
 start-test c = c .place-ok .ensures ∙ ap (startOk _) (c .before .part-of2 .ensures .1)
 
 -- ---- the needs
