@@ -35,4 +35,10 @@ step-unpadded (answered (stop w)) = refl
 step-unpadded (answered (go p)) =
     let low = p .facet .low in
     let masks = p .facet .masks in
-    rw (getD-padded 0ℤ 3 0 low (lit< tt), getD-padded 0ℤ 3 1 low (lit< tt), getD-padded 0ℤ 3 2 low (lit< tt), getD-padded 0 2 0 masks (lit< tt), getD-padded 0 2 1 masks (lit< tt))
+    rw (
+      getD-padded 0ℤ 3 0 low (lit< tt),
+      getD-padded 0ℤ 3 1 low (lit< tt),
+      getD-padded 0ℤ 3 2 low (lit< tt),
+      getD-padded 0 2 0 masks (lit< tt),
+      getD-padded 0 2 1 masks (lit< tt),
+    )

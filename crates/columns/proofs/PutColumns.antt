@@ -17,8 +17,8 @@ use Rattle.columns.specs.Found.{ValuesPut, ColumnsPut, stopNumber, Colum
 use Rattle.columns.proofs.Counted.{every-all, every-fails, same-each, map-map}
 
 -- a test of a vertex, and what is put in for it, under another name for the vertex
-pub at-vertex : (t : Vertex → Bool) {u v : Vertex} {r b : Bool} → u ≡ v → r ≡ t u → r ≡ b → t v ≡ b
-at-vertex t e f g = ap t (sym e) ∙ sym f ∙ g
+pub at-vertex : (s : List ℕ) {u v : Vertex} {r b : Bool} → u ≡ v → r ≡ fieldOf s .inBox u → r ≡ b → fieldOf s .inBox v ≡ b
+at-vertex s e f g = ap (fieldOf s .inBox) (sym e) ∙ sym f ∙ g
 
 pub put-vertex : {s : List ℕ} {n k : ℕ} {u v : Vertex} {before after : List ℤ} {r : Bool} → u ≡ v → ValuesPut s n u k before r after
     → ValuesPut s n v k before r after
@@ -72,7 +72,9 @@ module _ {s : List ℕ} {n : ℕ} (f : ℕ → Vertex) {before cells : List ℤ}
       record {
         test = sym (every-all (fieldOf s .readable) f m (λ q l. g .tests q (omega arith)));
         cells = g .cells;
-        columns = λ z. same-each (columnAt n cells) (λ q. column (fieldOf s) (f q)) m (λ q l. g .columns q (omega arith)) ∙ sym (map-map (column (fieldOf s)) f (countFrom 0 m));
+        columns = λ z.
+            same-each (columnAt n cells) (λ q. column (fieldOf s) (f q)) m (λ q l. g .columns q (omega arith))
+            ∙ sym (map-map (column (fieldOf s)) f (countFrom 0 m));
         upper = λ q l. g .upper q (omega arith);
       }
 

@@ -113,7 +113,9 @@ module _ {n : ℕ} {s : List ℕ} (j : JobOf n s) (b : List ℕ) (v : Verdict) (
   pub count-within : count ≤ listingSpace
   unfolding traced
   count-within =
-      let few = subst (λ (t : Trace Place Stop). length (t .places) ≤ listingSpace) (answered-inv (traceRefusal s) _ _ h .is) (trace-length (stepIn s) onSameFacet (startOf s) listingSpace) in
+      let is = answered-inv (traceRefusal s) _ _ h .is in
+      let most = trace-length (stepIn s) onSameFacet (startOf s) listingSpace in
+      let few = subst (λ (t : Trace Place Stop). length (t .places) ≤ listingSpace) is most in
       omega (arith, few, readPlaces-length (dimension s) count b)
 
   each-traceable : (p : Place) → p ∈ readPlaces (dimension s) count b → Traceable (dimension s) (fieldOf s) p

@@ -36,7 +36,8 @@ unfolding traceRefusal
 not-opened {s} b e h = trace-refused b (e ∙ sym (first-refuses (openRefusal s) _ (λ z. h (e ∙ z)))) h
 
 -- the start's bytes, as the code found them
-pub at-start : {n : ℕ} {s p : List ℕ} {r : JobPlace} {cells : List ℤ} → JobOf n s → Crosses n s p r cells → p ≡ body s n → Crosses n s (body s (dimension s)) r cells
+pub at-start : {n : ℕ} {s p : List ℕ} {r : JobPlace} {cells : List ℤ} → JobOf n s → Crosses n s p r cells → p ≡ body s n
+    → Crosses n s (body s (dimension s)) r cells
 at-start {n} {s} {r} {cells} j c e = subst (λ b. Crosses n s b r cells) (e ∙ ap (body s) (j .dimension)) c
 
 module _ {n : ℕ} {s : List ℕ} {r : JobPlace} {cells : List ℤ} (j : JobOf n s) (c : Crosses n s (body s (dimension s)) r cells) where

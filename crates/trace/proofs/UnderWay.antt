@@ -162,7 +162,9 @@ module _ {s : List ℕ} {n : ℕ} {start : HeldPlace} {before buffer : List ℕ}
 
     -- what is left of the trace, when `here` is written
     turned : traceOver s n start before
-        ≡ joined (u .so-far) (afterStep onSameFacet (λ y. traceFrom (stepIn s) onSameFacet (placeAs n start) (u .left - 1) y) (placeAs n start) (placeAs n here) (stepIn s (placeAs n here)))
+        ≡ joined (u .so-far)
+        (afterStep onSameFacet (λ y. traceFrom (stepIn s) onSameFacet (placeAs n start) (u .left - 1) y) (placeAs n start) (placeAs n here)
+        (stepIn s (placeAs n here)))
     unfolding traceFrom
     turned =
         let one : u .left ≡ suc (u .left - 1) = omega (arith, u .space) in

@@ -39,15 +39,28 @@ returns c =
 
 returns-2 : tie.Need-returns-2
 unfolding millimetresAs moveAs withPoint penNumbers isSet
-returns-2 c = pen-moved _ _ _ _ (c .before .before .before .before .pen-move .given .1) (c .before .pen-move2 .given .1) (c .before .before .before .before .before .before .pen .ensures)
+returns-2 c =
+    pen-moved _ _ _ _
+    (c .before .before .before .before .pen-move .given .1)
+    (c .before .pen-move2 .given .1)
+    (c .before .before .before .before .before .before .pen .ensures)
 
 returns-3 : tie.Need-returns-3
 unfolding millimetresAs moveAs withPoint penNumbers isSet
-returns-3 c = pen-moved _ _ _ _ (c .before .before .before .before .pen-move .given .1) (c .before .pen-move3 .given .1) (c .before .before .before .before .before .before .pen .ensures)
+returns-3 c =
+    pen-moved _ _ _ _
+    (c .before .before .before .before .pen-move .given .1)
+    (c .before .pen-move3 .given .1)
+    (c .before .before .before .before .before .before .pen .ensures)
 
 returns-4 : tie.Need-returns-4
 unfolding moveAs penNumbers isSet
-returns-4 c = c .without-point2 .ensures ∙ pen-moved _ _ _ _ (c .before .before .before .before .pen-move .given .1) (c .before .enum-told .given .1) (c .before .before .before .before .before .before .pen .ensures)
+returns-4 c =
+    c .without-point2 .ensures
+    ∙ pen-moved _ _ _ _
+    (c .before .before .before .before .pen-move .given .1)
+    (c .before .enum-told .given .1)
+    (c .before .before .before .before .before .before .pen .ensures)
 
 pub gethwapiko-pen-spec : {M : Type 1} → statement M
 gethwapiko-pen-spec =

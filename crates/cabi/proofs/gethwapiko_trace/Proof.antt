@@ -24,8 +24,10 @@ same-length c = search needs
 
 returns : tie.Need-returns
 unfolding tracedAs traceNumbers
-returns c =
-    (ap traceNumbers (ap tracedAs (sym (c .before .refusal .given .1)) ∙ c .before .before .before .before .before .trace .ensures .0), c .before .before .before .before .before .trace .ensures .1)
+returns c = (
+  ap traceNumbers (ap tracedAs (sym (c .before .refusal .given .1)) ∙ c .before .before .before .before .before .trace .ensures .0),
+  c .before .before .before .before .before .trace .ensures .1,
+)
 
 same-length-2 : tie.Need-same-length-2
 same-length-2 c = search needs

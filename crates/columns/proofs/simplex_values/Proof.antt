@@ -12,8 +12,7 @@ values-at-requires : tie.Need-values-at-requires
 values-at-requires c κs = (c .before .before .pre, omega (arith, job-axes (c .before .before .pre .0) .high))
 
 returns : tie.Need-returns
-returns c =
-    simplex-found (c .values-at .ensures) (simplex-list (c .before .before .before .args .n) (job-axes (c .before .before .before .pre .0)) (c .before .before .before .args .corner) (c .before .before .before .args .m1) (c .before .before .before .args .m2) (c .before .before .before .args .m3) (c .before .before .before .args .m4))
+returns c = simplex-found (c .values-at .ensures) (simplex-list _ (job-axes (c .before .before .before .pre .0)) _ _ _ _ _)
 
 pub simplex-values-spec : {M : Type 1} → statement M
 simplex-values-spec = tie.close (tie.spec add-values-at values-at-requires returns)

@@ -30,19 +30,26 @@ box-right : (c : tie.Else2)
 box-right c = test-passed (box-test (c .before)) (c .if2 .left)
 
 -- the start alone is left
-left-start : (c : tie.Else3)
-    → bodiesRefusal (c .before .before .before .before .before .before .before .before .args .n) (c .before .before .before .before .before .before .before .before .args .job .now)
-    ≡ startRefusal (c .before .before .before .before .before .before .before .before .args .n) (c .before .before .before .before .before .before .before .before .args .job .now)
+abbrev StartDecides : tie.Start → Type 0
+StartDecides start = bodiesRefusal (start .args .n) (start .args .job .now) ≡ startRefusal (start .args .n) (start .args .job .now)
+
+left-start : (c : tie.Else3) → StartDecides (c .before .before .before .before .before .before .before .before)
 left-start c =
-    start-decides _ _ (contents-right (c .before .before .before .before .before)) (box-right (c .before .before)) (test-passed (c .before .polynomials-ok .ensures) (c .if3 .left))
+    start-decides _ _
+    (contents-right (c .before .before .before .before .before))
+    (box-right (c .before .before))
+    (test-passed (c .before .polynomials-ok .ensures) (c .if3 .left))
 
 -- the test of a start's bytes
 abbrev startOk : ℕ → List ℕ → Bool
 startOk n b = placeOk n (decodePlace n b)
 
-start-test : (c : tie.After-place-ok)
-    → c .place-ok .result ≡ startOk (c .before .before .before .before .before .before .before .before .before .before .args .n) (body (c .before .before .before .before .before .before .before .before .before .before .args .job .now) (c .before .before .before .before .before .before .before .before .before .before .args .n))
-start-test c = c .place-ok .ensures ∙ ap (startOk (c .before .before .before .before .before .before .before .before .before .before .args .n)) (c .before .part-of2 .ensures .1)
+-- that test of the job's start
+abbrev jobStartOk : tie.Start → Bool
+jobStartOk start = startOk (start .args .n) (body (start .args .job .now) (start .args .n))
+
+start-test : (c : tie.After-place-ok) → c .place-ok .result ≡ jobStartOk (c .before .before .before .before .before .before .before .before .before .before)
+start-test c = c .place-ok .ensures ∙ ap (startOk _) (c .before .part-of2 .ensures .1)
 
 -- ---- the needs
 

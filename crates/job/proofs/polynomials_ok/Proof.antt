@@ -16,7 +16,8 @@ abbrev μ-loop : tie.MeasureT-loop
 
 -- what a turn's test answers
 answer : (c : tie.After-polynomial-ok Inv-loop μ-loop)
-    → c .polynomial-ok .result ≡ polynomialOk (c .before .before .before .before .before .args .n) (body (c .before .before .before .before .before .args .job .now) (c .before .before .before .loop .k))
+    → c .polynomial-ok .result
+    ≡ polynomialOk (c .before .before .before .before .before .args .n) (body (c .before .before .before .before .before .args .job .now) (c .before .before .before .loop .k))
 answer c = c .polynomial-ok .ensures ∙ ap (polynomialOk (c .before .before .before .before .before .args .n)) (c .before .part-of .ensures .1)
 
 loop-holds : tie.Need-loop-holds Inv-loop μ-loop

@@ -20,12 +20,21 @@ refused-requires c κs = search needs
 
 returns-2 : tie.Need-returns-2
 returns-2 c =
-    not-crossed (c .before .before .before .before .before .before .before .before .before .before .pre .0) (c .before .before .before .before .before .before .place-in .ensures) (c .before .before .before .before .if1 .left) _
-    (sym (c .before .before .crossed .ensures) ∙ not-true (c .before .before .crossed .result) (c .before .if2 .taken)) (c .refused .ensures)
+    not-crossed
+    (c .before .before .before .before .before .before .before .before .before .before .pre .0)
+    (c .before .before .before .before .before .before .place-in .ensures)
+    (c .before .before .before .before .if1 .left)
+    _
+    (sym (c .before .before .crossed .ensures) ∙ not-true (c .before .before .crossed .result) (c .before .if2 .taken))
+    (c .refused .ensures)
 
 returns-3 : tie.Need-returns-3
 returns-3 c =
-    is-crossed (c .before .before .before .before .before .before .before .before .before .pre .0) (c .before .before .before .before .before .place-in .ensures) (c .before .before .before .if1 .left) (sym (c .before .crossed .ensures) ∙ not-false (c .before .crossed .result) (c .if2 .left))
+    is-crossed
+    (c .before .before .before .before .before .before .before .before .before .pre .0)
+    (c .before .before .before .before .before .place-in .ensures)
+    (c .before .before .before .if1 .left)
+    (sym (c .before .crossed .ensures) ∙ not-false (c .before .crossed .result) (c .if2 .left))
 
 pub crossing-in-spec : {M : Type 1} → statement M
 crossing-in-spec =

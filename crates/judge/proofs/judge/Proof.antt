@@ -3,6 +3,7 @@ use borrow.Author.Needs.{needs}
 use mathlib.Core.Path.{sym, _∙_}
 use mathlib.Core.Bool.{true, false}
 use Rattle.paper.specs.Answers.{judgedAs}
+use Rattle.job.specs.OpenJob.{JobOf}
 use Rattle.job.proofs.OpenJob.{job-axes, opened}
 use Rattle.columns.proofs.FacetColumns.{zero-cells}
 use Rattle.judge.proofs.JudgeAnswers.{judge-refused, judge-unopened, judge-answered}
@@ -19,10 +20,12 @@ returns c = judge-unopened _ _ _ (c .before .open-refusal .ensures) (c .if1 .tak
 opened-dimension-requires : tie.Need-opened-dimension-requires
 opened-dimension-requires c κs = search needs
 
+-- the job has opened
+job : (c : tie.After-opened-dimension) → JobOf (c .opened-dimension .result) (c .before .before .before .before .before .args .job .now)
+job c = opened (c .before .before .open-refusal .ensures) (c .before .if1 .left) (c .opened-dimension .ensures)
+
 place-in-requires : tie.Need-place-in-requires
-place-in-requires c κs =
-    let job = opened (c .before .before .before .open-refusal .ensures) (c .before .before .if1 .left) (c .before .opened-dimension .ensures) in
-    (job, zero-cells (job-axes job))
+place-in-requires c κs = (job (c .before), zero-cells (job-axes (job (c .before))))
 
 returns-2 : tie.Need-returns-2
 unfolding judgedAs
@@ -34,14 +37,20 @@ crossed-requires c κs = search needs
 returns-3 : tie.Need-returns-3
 unfolding judgedAs
 returns-3 c =
-    let job = opened (c .before .before .before .before .before .before .before .before .before .open-refusal .ensures) (c .before .before .before .before .before .before .before .before .if1 .left) (c .before .before .before .before .before .before .before .opened-dimension .ensures) in
-    judge-answered true job (c .before .before .before .before .before .place-in .ensures) (c .before .before .before .if2 .left) (sym (c .before .crossed .ensures) ∙ c .if3 .taken)
+    judge-answered true
+    (job (c .before .before .before .before .before .before .before))
+    (c .before .before .before .before .before .place-in .ensures)
+    (c .before .before .before .if2 .left)
+    (sym (c .before .crossed .ensures) ∙ c .if3 .taken)
 
 returns-4 : tie.Need-returns-4
 unfolding judgedAs
 returns-4 c =
-    let job = opened (c .before .before .before .before .before .before .before .before .before .open-refusal .ensures) (c .before .before .before .before .before .before .before .before .if1 .left) (c .before .before .before .before .before .before .before .opened-dimension .ensures) in
-    judge-answered false job (c .before .before .before .before .before .place-in .ensures) (c .before .before .before .if2 .left) (sym (c .before .crossed .ensures) ∙ c .if3 .left)
+    judge-answered false
+    (job (c .before .before .before .before .before .before .before))
+    (c .before .before .before .before .before .place-in .ensures)
+    (c .before .before .before .if2 .left)
+    (sym (c .before .crossed .ensures) ∙ c .if3 .left)
 
 pub judge-spec : {M : Type 1} → statement M
 judge-spec =

@@ -22,7 +22,12 @@ point-requires c κs =
 returns-2 : tie.Need-returns-2
 unfolding pointedAs
 returns-2 c =
-    point-answered (c .before .before .before .before .before .before .before .before .pre) (c .before .before .before .before .crossing-in .ensures) (c .before .before .if1 .left) _ (c .point .ensures)
+    point-answered
+    (c .before .before .before .before .before .before .before .before .pre)
+    (c .before .before .before .before .crossing-in .ensures)
+    (c .before .before .if1 .left)
+    _
+    (c .point .ensures)
 
 pub point-in-spec : {M : Type 1} → statement M
 point-in-spec = tie.close (tie.spec crossing-in-requires returns point-requires returns-2)

@@ -4,6 +4,7 @@ use mathlib.Core.Path.{refl, sym, _∙_}
 use native.Mathlib.Omega.{arith}
 use borrow.Author.Needs.{needs}
 use Rattle.paper.specs.Pen.{moveAs, pennedAs}
+use Rattle.job.specs.OpenJob.{JobOf}
 use Rattle.job.proofs.OpenJob.{job-axes, opened}
 use Rattle.pen.proofs.PenAnswers.{place-ends, pen-not-opened, pen-uneven, pen-closes, pen-past, pen-at}
 use Rattle.pen.proofs.pen.Statement.{statement}
@@ -19,24 +20,30 @@ returns c = pen-not-opened _ _ _ _ _ (c .before .open-refusal .ensures) (c .if1 
 opened-dimension-requires : tie.Need-opened-dimension-requires
 opened-dimension-requires c κs = search needs
 
+-- the job has opened
+job : (c : tie.After-opened-dimension) → JobOf (c .opened-dimension .result) (c .before .before .before .before .before .args .job .now)
+job c = opened (c .before .before .open-refusal .ensures) (c .before .if1 .left) (c .opened-dimension .ensures)
+
 mul-size : tie.Need-mul-size
 mul-size c =
-    let axes = job-axes (opened (c .before .before .open-refusal .ensures) (c .before .if1 .left) (c .opened-dimension .ensures)) in
+    let axes = job-axes (job c) in
     omega arith
 
 rem-if2 : tie.Need-rem-if2
 rem-if2 c =
-    let axes = job-axes (opened (c .before .before .open-refusal .ensures) (c .before .if1 .left) (c .opened-dimension .ensures)) in
+    let axes = job-axes (job c) in
     omega arith
 
 returns-2 : tie.Need-returns-2
 unfolding pennedAs
 returns-2 c =
-    pen-uneven _ _ _ _ (opened (c .before .before .before .open-refusal .ensures) (c .before .before .if1 .left) (c .before .opened-dimension .ensures)) (c .if2 .taken)
+    pen-uneven _ _ _ _
+    (job (c .before))
+    (c .if2 .taken)
 
 div-count : tie.Need-div-count
 div-count c =
-    let axes = job-axes (opened (c .before .before .before .open-refusal .ensures) (c .before .before .if1 .left) (c .before .opened-dimension .ensures)) in
+    let axes = job-axes (job (c .before)) in
     omega arith
 
 closes-requires : tie.Need-closes-requires
@@ -45,18 +52,30 @@ closes-requires c κs = search needs
 returns-3 : tie.Need-returns-3
 unfolding pennedAs moveAs
 returns-3 c =
-    pen-closes _ _ _ _ (opened (c .before .before .before .before .before .open-refusal .ensures) (c .before .before .before .before .if1 .left) (c .before .before .before .opened-dimension .ensures)) (c .before .before .if2 .left) (sym (c .before .closes .ensures) ∙ c .if3 .taken)
+    pen-closes _ _ _ _
+    (job (c .before .before .before))
+    (c .before .before .if2 .left)
+    (sym (c .before .closes .ensures) ∙ c .if3 .taken)
 
 returns-4 : tie.Need-returns-4
 unfolding pennedAs
 returns-4 c =
-    pen-past _ _ _ _ (opened (c .before .before .before .before .before .before .open-refusal .ensures) (c .before .before .before .before .before .if1 .left) (c .before .before .before .before .opened-dimension .ensures)) (c .before .before .before .if2 .left) (sym (c .before .before .closes .ensures) ∙ c .before .if3 .left) (c .if4 .taken)
+    pen-past _ _ _ _
+    (job (c .before .before .before .before))
+    (c .before .before .before .if2 .left)
+    (sym (c .before .before .closes .ensures) ∙ c .before .if3 .left)
+    (c .if4 .taken)
 
 -- place k ends within the list
 part-move-to-end : tie.Need-part-move-to-end
 part-move-to-end c =
-    let axes = job-axes (opened (c .before .before .before .before .before .before .open-refusal .ensures) (c .before .before .before .before .before .if1 .left) (c .before .before .before .before .opened-dimension .ensures)) in
-    place-ends (3 * c .before .before .before .before .opened-dimension .result) (c .before .before .before .before .before .before .before .before .before .args .k) (c .before .before .before .before .before .before .before .before .before .args .places .now) (omega arith) (c .if4 .left)
+    let axes = job-axes (job (c .before .before .before .before)) in
+    place-ends
+    (3 * c .before .before .before .before .opened-dimension .result)
+    (c .before .before .before .before .before .before .before .before .before .args .k)
+    (c .before .before .before .before .before .before .before .before .before .args .places .now)
+    (omega arith)
+    (c .if4 .left)
 
 mul-from : tie.Need-mul-from
 mul-from c = omega (arith, part-move-to-end c)
@@ -76,7 +95,13 @@ move-to-requires c κs = search needs
 returns-5 : tie.Need-returns-5
 returns-5 c =
     c .move-to .ensures
-    ∙ pen-at _ _ _ _ (opened (c .before .before .before .before .before .before .before .before .open-refusal .ensures) (c .before .before .before .before .before .before .before .if1 .left) (c .before .before .before .before .before .before .opened-dimension .ensures)) (c .before .before .before .before .before .if2 .left) (sym (c .before .before .before .before .closes .ensures) ∙ c .before .before .before .if3 .left) (c .before .before .if4 .left) _ refl
+    ∙ pen-at _ _ _ _
+    (job (c .before .before .before .before .before .before))
+    (c .before .before .before .before .before .if2 .left)
+    (sym (c .before .before .before .before .closes .ensures) ∙ c .before .before .before .if3 .left)
+    (c .before .before .if4 .left)
+    _
+    refl
 
 pub pen-spec : {M : Type 1} → statement M
 pen-spec =

@@ -10,8 +10,7 @@ open-refusal-requires c κs = search needs
 
 returns : tie.Need-returns
 unfolding steppedAs
-returns c =
-    step-unopened (c .before .before .before .before .args .job .now) (c .before .before .before .before .args .place .now) (c .before .open-refusal .ensures) (c .if1 .taken)
+returns c = step-unopened _ _ (c .before .open-refusal .ensures) (c .if1 .taken)
 
 opened-dimension-requires : tie.Need-opened-dimension-requires
 opened-dimension-requires c κs = search needs

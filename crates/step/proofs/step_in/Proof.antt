@@ -17,8 +17,7 @@ crossing-in-requires c κs =
 
 returns : tie.Need-returns
 unfolding steppedAs
-returns c =
-    step-refused (c .before .before .before .before .before .before .args .job .now) (c .before .before .before .before .before .before .args .place .now) (c .before .before .crossing-in .ensures .number) (c .if1 .taken)
+returns c = step-refused _ _ (c .before .before .crossing-in .ensures .number) (c .if1 .taken)
 
 onward-requires : tie.Need-onward-requires
 onward-requires c κs =
@@ -40,20 +39,31 @@ answer-place-requires c κs =
 returns-2 : tie.Need-returns-2
 unfolding steppedAs paddedNext
 returns-2 c =
-    step-answered (c .before .before .before .before .before .before .before .before .before .before .pre) (c .before .before .before .before .before .before .crossing-in .ensures) (c .before .before .before .before .if1 .left)
-    (subst (AheadIs (c .before .before .before .before .before .before .before .before .before .before .args .job .now) (c .before .before .before .before .before .before .before .before .before .before .args .n) (placeAs (c .before .before .before .before .before .before .before .before .before .before .args .n) (c .before .before .before .before .before .before .crossing-in .result .place))) (c .enum-told .given .1) (c .before .before .onward .ensures))
+    step-answered
+    (c .before .before .before .before .before .before .before .before .before .before .pre)
+    (c .before .before .before .before .before .before .crossing-in .ensures)
+    (c .before .before .before .before .if1 .left)
+    (subst (AheadIs _ _ _) (c .enum-told .given .1) (c .before .before .onward .ensures))
 
 returns-3 : tie.Need-returns-3
 unfolding steppedAs paddedNext
 returns-3 c =
-    step-answered (c .before .before .before .before .before .before .before .before .before .before .pre) (c .before .before .before .before .before .before .crossing-in .ensures) (c .before .before .before .before .if1 .left)
-    (subst (AheadIs (c .before .before .before .before .before .before .before .before .before .before .args .job .now) (c .before .before .before .before .before .before .before .before .before .before .args .n) (placeAs (c .before .before .before .before .before .before .before .before .before .before .args .n) (c .before .before .before .before .before .before .crossing-in .result .place))) (c .enum-told2 .given .1) (c .before .before .onward .ensures))
+    step-answered
+    (c .before .before .before .before .before .before .before .before .before .before .pre)
+    (c .before .before .before .before .before .before .crossing-in .ensures)
+    (c .before .before .before .before .if1 .left)
+    (subst (AheadIs _ _ _) (c .enum-told2 .given .1) (c .before .before .onward .ensures))
 
 returns-4 : tie.Need-returns-4
 unfolding steppedAs
 returns-4 c =
-    step-leads (c .before .before .before .before .before .before .before .before .before .before .before .before .pre) (c .before .before .before .before .before .before .before .before .crossing-in .ensures) (c .before .before .before .before .before .before .if1 .left) (c .answer-place .result)
-    (subst (AheadIs (c .before .before .before .before .before .before .before .before .before .before .before .before .args .job .now) (c .before .before .before .before .before .before .before .before .before .before .before .before .args .n) (placeAs (c .before .before .before .before .before .before .before .before .before .before .before .before .args .n) (c .before .before .before .before .before .before .before .before .crossing-in .result .place))) (c .before .before .ahead .given .1) (c .before .before .before .before .onward .ensures)) (c .answer-place .ensures)
+    step-leads
+    (c .before .before .before .before .before .before .before .before .before .before .before .before .pre)
+    (c .before .before .before .before .before .before .before .before .crossing-in .ensures)
+    (c .before .before .before .before .before .before .if1 .left)
+    (c .answer-place .result)
+    (subst (AheadIs _ _ _) (c .before .before .ahead .given .1) (c .before .before .before .before .onward .ensures))
+    (c .answer-place .ensures)
 
 pub step-in-spec : {M : Type 1} → statement M
 step-in-spec =

@@ -16,21 +16,28 @@ crossing-in-requires c κs =
 
 returns : tie.Need-returns
 returns c =
-    let k = at-start (c .before .before .before .before .before .before .before .pre) (c .before .before .crossing-in .ensures) (c .before .before .before .before .opened-body .ensures .1) in
-    let e = start-refused (c .before .before .before .before .before .before .before .pre) k (c .before .before .before .before .before .before .before .args .buffer .now) (c .if1 .taken) in
+    let j = c .before .before .before .before .before .before .before .pre in
+    let crossing = c .before .before .crossing-in .ensures in
+    let k = at-start j crossing (c .before .before .before .before .opened-body .ensures .1) in
+    let e = start-refused j k (c .before .before .before .before .before .before .before .args .buffer .now) (c .if1 .taken) in
     (e .answer, e .buffer)
 
 walk-requires : tie.Need-walk-requires
 walk-requires c κs =
-    found-held (c .before .before .before .before .before .before .before .before .before .pre) (at-start (c .before .before .before .before .before .before .before .before .before .pre) (c .before .before .before .before .crossing-in .ensures) (c .before .before .before .before .before .before .opened-body .ensures .1)) (c .before .before .if1 .left)
+    let j = c .before .before .before .before .before .before .before .before .before .pre in
+    let crossing = c .before .before .before .before .crossing-in .ensures in
+    let k = at-start j crossing (c .before .before .before .before .before .before .opened-body .ensures .1) in
+    found-held j k (c .before .before .if1 .left)
 
 same-length : tie.Need-same-length
 same-length c = search needs
 
 returns-2 : tie.Need-returns-2
 returns-2 c =
-    let k = at-start (c .before .before .before .before .before .before .before .before .before .before .before .before .pre) (c .before .before .before .before .before .before .before .crossing-in .ensures) (c .before .before .before .before .before .before .before .before .before .opened-body .ensures .1) in
-    let e = start-answered (c .before .before .before .before .before .before .before .before .before .before .before .before .pre) k (c .before .before .before .before .before .if1 .left) (c .before .before .walk .ensures) in
+    let j = c .before .before .before .before .before .before .before .before .before .before .before .before .pre in
+    let crossing = c .before .before .before .before .before .before .before .crossing-in .ensures in
+    let k = at-start j crossing (c .before .before .before .before .before .before .before .before .before .opened-body .ensures .1) in
+    let e = start-answered j k (c .before .before .before .before .before .if1 .left) (c .before .before .walk .ensures) in
     (e .answer, e .buffer)
 
 pub trace-in-spec : {M : Type 1} → statement M

@@ -12,7 +12,8 @@ opened-body-requires c κs = (c .before .pre .0 .0 .opens, omega (arith, c .befo
 
 raw-sum-requires : tie.Need-raw-sum-requires
 raw-sum-requires c κs =
-    (job-polynomial (c .before .before .pre .0 .0) _ (c .before .before .pre .1 .0) (c .before .before .pre .1 .1 .0) (c .opened-body .ensures .1), job-near (c .before .before .pre .0 .0) _ (c .before .before .pre .0 .1))
+    let h = c .before .before .pre in
+    (job-polynomial (h .0 .0) _ (h .1 .0) (h .1 .1 .0) (c .opened-body .ensures .1), job-near (h .0 .0) _ (h .0 .1))
 
 readable-requires : tie.Need-readable-requires
 readable-requires c κs = sum-passed _ _ (c .raw-sum .ensures)
@@ -32,7 +33,9 @@ element-set-from-found c = c .before .before .before .before .before .before .pr
 
 returns-2 : tie.Need-returns-2
 returns-2 c =
-    value-put _ _ _ (c .before .before .before .before .opened-body .ensures .1) (c .before .before .before .raw-sum .ensures) _ _ _ (c .before .before .readable .ensures) (not-false _ (c .before .if1 .left)) (c .value-of .ensures)
+    let body = c .before .before .before .before .opened-body .ensures .1 in
+    let sum = c .before .before .before .raw-sum .ensures in
+    value-put _ _ _ body sum _ _ _ (c .before .before .readable .ensures) (not-false _ (c .before .if1 .left)) (c .value-of .ensures)
 
 pub put-value-spec : {M : Type 1} → statement M
 put-value-spec =

@@ -31,11 +31,15 @@ add-put-value-2 c = omega (arith, c .before .before .before .pre .1 .0, c .befor
 
 put-value-requires : tie.Need-put-value-requires Inv-loop μ-loop
 put-value-requires c κs =
-    (c .before .before .before .before .pre .0, (omega arith, (c .before .loop-test .taken, omega (arith, c .before .before .before .before .pre .1 .0, c .before .loop-test .taken, job-axes (c .before .before .before .before .pre .0 .0) .high))))
+    let h = c .before .before .before .before .pre in
+    let here = c .before .loop-test .taken in
+    (h .0, (omega arith, (here, omega (arith, h .1 .0, here, job-axes (h .0 .0) .high))))
 
 returns : tie.Need-returns Inv-loop μ-loop
 returns c =
-    putting-fails (c .before .before .before .before .before .before .pre .0 .0) _ (c .before .before .before .before .loop .inv .1) (c .before .before .before .loop-test .taken) (c .before .put-value .ensures) (not-true _ (c .if1 .taken))
+    let h = c .before .before .before .before .before .before .pre in
+    let put = c .before .put-value .ensures in
+    putting-fails (h .0 .0) _ (c .before .before .before .before .loop .inv .1) (c .before .before .before .loop-test .taken) put (not-true _ (c .if1 .taken))
 
 add-j : tie.Need-add-j Inv-loop μ-loop
 add-j c = omega (arith, c .before .before .before .before .loop .inv .0, job-axes (c .before .before .before .before .before .before .pre .0 .0) .high)
@@ -44,10 +48,13 @@ loop-less : tie.Need-loop-less Inv-loop μ-loop
 loop-less c = omega (arith, c .before .before .before .loop-test .taken)
 
 loop-again : tie.Need-loop-again Inv-loop μ-loop
-loop-again c = (
-  omega (arith, c .before .before .before .loop-test .taken),
-  putting-next (c .before .before .before .before .before .before .pre .0 .0) _ (c .before .before .before .loop-test .taken) (c .before .before .before .before .loop .inv .1) (c .before .put-value .ensures) (c .before .before .before .before .before .before .pre .1 .0) (not-false _ (c .if1 .left)),
-)
+loop-again c =
+    let h = c .before .before .before .before .before .before .pre in
+    let here = c .before .before .before .loop-test .taken in
+    let put = c .before .put-value .ensures in (
+      omega (arith, here),
+      putting-next (h .0 .0) _ here (c .before .before .before .before .loop .inv .1) put (h .1 .0) (not-false _ (c .if1 .left)),
+    )
 
 returns-2 : tie.Need-returns-2 Inv-loop μ-loop
 returns-2 c = putting-all (c .before .before .before .pre .0 .0) _ (c .before .loop .inv .1) (c .loop-test .left) (c .before .loop .inv .0)

@@ -18,7 +18,9 @@ inside-requires c κs = (job-axes (c .before .before .pre), job-box (c .before .
 
 returns : tie.Need-returns
 unfolding fieldOf
-returns c = c .inside .ensures ∙ ap (λ (b : List ℕ). insideFrom b 0 (vertexAs (c .before .before .before .args .n) (c .before .before .before .args .v))) (c .before .opened-body .ensures .1)
+returns c =
+    let a = c .before .before .before .args in
+    c .inside .ensures ∙ ap (λ (b : List ℕ). insideFrom b 0 (vertexAs (a .n) (a .v))) (c .before .opened-body .ensures .1)
 
 pub vertex-inside-spec : {M : Type 1} → statement M
 vertex-inside-spec = tie.close (tie.spec opened-body-requires inside-requires returns)

@@ -30,8 +30,9 @@ vertex-inside-requires c κs = c .before .before .before .before .pre .0
 returns : tie.Need-returns Inv-loop μ-loop
 unfolding vertexList
 returns c =
-    sym (every-fails (fieldOf (c .before .before .before .before .before .before .args .job .now) .inBox) _ (c .before .before .before .before .before .before .args .count) (c .before .before .before .before .loop .k) (c .before .before .before .loop-test .taken)
-    (at-vertex (fieldOf (c .before .before .before .before .before .before .args .job .now) .inBox) (c .before .before .vertex-at .ensures (c .before .before .before .before .before .before .args .n)) (c .before .vertex-inside .ensures) (not-true _ (c .if1 .taken))))
+    sym
+    (every-fails _ _ _ (c .before .before .before .before .loop .k) (c .before .before .before .loop-test .taken)
+    (at-vertex _ (c .before .before .vertex-at .ensures _) (c .before .vertex-inside .ensures) (not-true _ (c .if1 .taken))))
 
 add-k : tie.Need-add-k Inv-loop μ-loop
 add-k c = omega (arith, c .before .before .before .before .before .before .fits .count, c .before .before .before .loop-test .taken)
@@ -42,12 +43,13 @@ loop-less c = omega (arith, c .before .before .before .loop-test .taken)
 loop-again : tie.Need-loop-again Inv-loop μ-loop
 loop-again c = (
   omega (arith, c .before .before .before .loop-test .taken),
-  below-more _ _ (c .before .before .before .before .loop .inv .1) (at-vertex (fieldOf (c .before .before .before .before .before .before .args .job .now) .inBox) (c .before .before .vertex-at .ensures (c .before .before .before .before .before .before .args .n)) (c .before .vertex-inside .ensures) (not-false _ (c .if1 .left))),
+  below-more _ _ (c .before .before .before .before .loop .inv .1)
+      (at-vertex _ (c .before .before .vertex-at .ensures _) (c .before .vertex-inside .ensures) (not-false _ (c .if1 .left))),
 )
 
 returns-2 : tie.Need-returns-2 Inv-loop μ-loop
 unfolding vertexList
-returns-2 c = sym (every-all (fieldOf (c .before .before .before .args .job .now) .inBox) _ (c .before .before .before .args .count) (λ q l. c .before .loop .inv .1 q (omega (arith, c .loop-test .left))))
+returns-2 c = sym (every-all _ _ _ (λ q l. c .before .loop .inv .1 q (omega (arith, c .loop-test .left))))
 
 pub all-inside-spec : {M : Type 1} → statement M
 all-inside-spec =

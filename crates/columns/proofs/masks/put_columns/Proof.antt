@@ -25,15 +25,20 @@ vertex-at-requires c κs = c .before .before .before .pre .0 .1 .0
 put-values-requires : tie.Need-put-values-requires Inv-loop μ-loop
 unfolding vertexList
 put-values-requires c κs = (
-  (c .before .before .before .before .before .pre .0 .0, ap (fieldOf (c .before .before .before .before .before .args .job .now) .inBox) (c .before .vertex-at .ensures (c .before .before .before .before .before .args .n)) ∙ every-at (fieldOf (c .before .before .before .before .before .args .job .now) .inBox) _ (c .before .before .before .before .before .args .count) (c .before .before .before .loop .k) (c .before .before .before .before .before .pre .1 .1) (c .before .before .loop-test .taken)),
+  (
+    c .before .before .before .before .before .pre .0 .0,
+    ap (fieldOf (c .before .before .before .before .before .args .job .now) .inBox) (c .before .vertex-at .ensures _)
+        ∙ every-at _ _ _ (c .before .before .before .loop .k) (c .before .before .before .before .before .pre .1 .1) (c .before .before .loop-test .taken),
+  ),
   (omega (arith, c .before .before .before .before .before .pre .1 .0, c .before .before .loop-test .taken), c .before .before .before .loop .inv .1 .cells),
 )
 
 returns : tie.Need-returns Inv-loop μ-loop
 unfolding vertexList
 returns c =
-    filling-fails _ (c .before .before .before .before .before .loop .k) (c .before .before .before .before .before .loop .inv .1) (c .before .before .before .before .before .before .before .args .count) (c .before .before .before .before .loop-test .taken)
-    (put-vertex (c .before .before .before .vertex-at .ensures (c .before .before .before .before .before .before .before .args .n)) (c .before .put-values .ensures)) (not-true _ (c .if1 .taken))
+    filling-fails _ _ (c .before .before .before .before .before .loop .inv .1) _ (c .before .before .before .before .loop-test .taken)
+    (put-vertex (c .before .before .before .vertex-at .ensures _) (c .before .put-values .ensures))
+    (not-true _ (c .if1 .taken))
 
 add-k : tie.Need-add-k Inv-loop μ-loop
 add-k c = omega (arith, c .before .before .before .before .before .before .before .pre .1 .0, c .before .before .before .before .loop-test .taken)
@@ -44,12 +49,14 @@ loop-less c = omega (arith, c .before .before .before .before .loop-test .taken)
 loop-again : tie.Need-loop-again Inv-loop μ-loop
 loop-again c = (
   omega (arith, c .before .before .before .before .loop-test .taken),
-  filling-next _ (c .before .before .before .before .before .loop .k) (c .before .before .before .before .before .loop .inv .1) (put-vertex (c .before .before .before .vertex-at .ensures (c .before .before .before .before .before .before .before .args .n)) (c .before .put-values .ensures)) (not-false _ (c .if1 .left)),
+  filling-next _ _ (c .before .before .before .before .before .loop .inv .1)
+      (put-vertex (c .before .before .before .vertex-at .ensures _) (c .before .put-values .ensures))
+      (not-false _ (c .if1 .left)),
 )
 
 returns-2 : tie.Need-returns-2 Inv-loop μ-loop
 unfolding vertexList
-returns-2 c = filling-all _ (c .before .loop .k) (c .before .loop .inv .1) (c .before .before .before .args .count) (omega (arith, c .loop-test .left, c .before .loop .inv .0))
+returns-2 c = filling-all _ _ (c .before .loop .inv .1) _ (omega (arith, c .loop-test .left, c .before .loop .inv .0))
 
 pub put-columns-spec : {M : Type 1} → statement M
 put-columns-spec =

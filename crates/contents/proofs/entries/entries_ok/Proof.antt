@@ -16,7 +16,8 @@ abbrev μ-loop : tie.MeasureT-loop
 μ-loop n s at₀ k₀ at k = n + 1 - k
 
 -- the body of a turn begins where the last ended
-placed : (c : tie.Else1 Inv-loop μ-loop) → entryOffset (c .before .before .before .before .before .args .s .now) (c .before .before .before .loop .k) ≡ c .before .before .before .loop .at
+placed : (c : tie.Else1 Inv-loop μ-loop)
+    → entryOffset (c .before .before .before .before .before .args .s .now) (c .before .before .before .loop .k) ≡ c .before .before .before .loop .at
 placed c = sym (c .before .entry-offset .ensures .is) ∙ c .if1 .left
 
 mul-at : tie.Need-mul-at Inv-loop μ-loop

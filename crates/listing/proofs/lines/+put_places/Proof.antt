@@ -55,7 +55,10 @@ put-places-put-line-requires : (t : ℕ) → put-places-lts.Need-put-line-requir
   put-places-below t,
   put-places.Post,
 ) (put-places-at t) put-places.Post
-put-places-put-line-requires t c κs = (first-shown _ (c .before .before .before .before .before .before .pre .1 .0) (c .before .before .if1 .left) .line, omega (arith, c .before .before .before .before .before .before .pre .1 .1, c .before .before .if1 .left))
+put-places-put-line-requires t c κs =
+    let h = c .before .before .before .before .before .before .pre .1 in
+    let some = c .before .before .if1 .left in
+    (first-shown _ (h .0) some .line, omega (arith, h .1, some))
 
 put-places-sub-put-places : (t : ℕ) → put-places-lts.Need-sub-put-places (
   put-line-reads.Asked,
@@ -63,7 +66,9 @@ put-places-sub-put-places : (t : ℕ) → put-places-lts.Need-sub-put-places (
   put-places-below t,
   put-places.Post,
 ) (put-places-at t) put-places.Post
-put-places-sub-put-places t c = omega (arith, first-shown _ (c .before .before .before .before .before .before .before .before .before .pre .1 .0) (c .before .before .before .before .before .if1 .left) .room)
+put-places-sub-put-places t c =
+    let shown = first-shown _ (c .before .before .before .before .before .before .before .before .before .pre .1 .0) (c .before .before .before .before .before .if1 .left) in
+    omega (arith, shown .room)
 
 put-places-part-put-places-start : (t : ℕ) → put-places-lts.Need-part-put-places-start (
   put-line-reads.Asked,
@@ -71,7 +76,9 @@ put-places-part-put-places-start : (t : ℕ) → put-places-lts.Need-part-put-pl
   put-places-below t,
   put-places.Post,
 ) (put-places-at t) put-places.Post
-put-places-part-put-places-start t c = omega (arith, first-shown _ (c .before .before .before .before .before .before .before .before .before .pre .1 .0) (c .before .before .before .before .before .if1 .left) .room)
+put-places-part-put-places-start t c =
+    let shown = first-shown _ (c .before .before .before .before .before .before .before .before .before .pre .1 .0) (c .before .before .before .before .before .if1 .left) in
+    omega (arith, shown .room)
 
 put-places-part-put-places-end : (t : ℕ) → put-places-lts.Need-part-put-places-end (
   put-line-reads.Asked,
@@ -79,7 +86,9 @@ put-places-part-put-places-end : (t : ℕ) → put-places-lts.Need-part-put-plac
   put-places-below t,
   put-places.Post,
 ) (put-places-at t) put-places.Post
-put-places-part-put-places-end t c = omega (arith, first-shown _ (c .before .before .before .before .before .before .before .before .before .pre .1 .0) (c .before .before .before .before .before .if1 .left) .room)
+put-places-part-put-places-end t c =
+    let shown = first-shown _ (c .before .before .before .before .before .before .before .before .before .pre .1 .0) (c .before .before .before .before .before .if1 .left) in
+    omega (arith, shown .room)
 
 put-places-sub-put-places-2 : (t : ℕ) → put-places-lts.Need-sub-put-places-2 (
   put-line-reads.Asked,
@@ -121,8 +130,11 @@ put-places-returns-2 : (t : ℕ) → put-places-lts.Need-returns-2 (
   put-places.Post,
 ) (put-places-at t) put-places.Post
 put-places-returns-2 t c =
-    writes-as (first-shown _ (c .before .before .before .before .before .before .before .before .before .before .before .before .before .before .pre .1 .0) (c .before .before .before .before .before .before .before .before .before .before .if1 .left) .text) (omega (arith, c .before .before .before .before .before .before .before .before .before .before .if1 .left))
-    (writes-then (omega (arith, c .before .before .before .before .before .before .before .before .before .before .before .before .before .before .pre .1 .1)) (c .before .before .before .before .before .before .before .put-line .ensures) (λ i. c .before .before .put-places .ensures))
+    let h = c .before .before .before .before .before .before .before .before .before .before .before .before .before .before .pre .1 in
+    let some = c .before .before .before .before .before .before .before .before .before .before .if1 .left in
+    let line = c .before .before .before .before .before .before .before .put-line .ensures in
+    let shown = first-shown _ (h .0) some in
+    writes-as (shown .text) (omega (arith, some)) (writes-then (omega (arith, h .1)) line (λ i. c .before .before .put-places .ensures))
 
 pub +put-places-spec : {M : Type 1} → statement M
 +put-places-spec = close μ-put-places λ t. put-places-lts.spec (

@@ -29,7 +29,11 @@ same-length c = search needs
 returns : tie.Need-returns
 returns c =
     writes-as
-    (line-shown (c .before .before .before .before .before .before .before .before .before .before .before .before .pre .0) (c .before .before .before .before .before .before .before .before .read-place .ensures) (c .before .before .before .before .before .q .given .1) (c .before .before .before .before .before .before .before .point-in .ensures))
+    (line-shown
+    (c .before .before .before .before .before .before .before .before .before .before .before .before .pre .0)
+    (c .before .before .before .before .before .before .before .before .read-place .ensures)
+    (c .before .before .before .before .before .q .given .1)
+    (c .before .before .before .before .before .before .before .point-in .ensures))
     (le-refl _)
     (c .before .before .put-place .ensures)
 

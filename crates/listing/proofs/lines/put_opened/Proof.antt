@@ -41,7 +41,10 @@ returns : tie.Need-returns
 returns c =
     let s = c .before .before .before .before .before .before .before .before .before .before .before .before .before .before in
     let l = c .before .before .before .before .before .before .before .before .before .trace-listed in (
-      writes-as (lines-refused (now (s .args .job)) _ (c .before .before .before .before .before .k .given .1) (l .ensures .0)) (omega arith) (c .before .before .put-refused .ensures),
+      writes-as
+          (lines-refused (now (s .args .job)) _ (c .before .before .before .before .before .k .given .1) (l .ensures .0))
+          (omega arith)
+          (c .before .before .put-refused .ensures),
       l .ensures .1,
     )
 

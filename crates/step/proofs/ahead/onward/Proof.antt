@@ -24,11 +24,17 @@ simplex-of-requires c κs =
 
 returns : tie.Need-returns
 returns c =
-    at-edge (c .before .before .before .before .before .before .pre) (c .before .before .before .before .find .ensures) (c .before .before .before .corner-of .ensures) (c .before .simplex-of .ensures) (c .if1 .taken)
+    let h = c .before .before .before .before .before .before .pre in
+    let f = c .before .before .before .before .find .ensures in
+    let k = c .before .before .before .corner-of .ensures in
+    at-edge h f k (c .before .simplex-of .ensures) (c .if1 .taken)
 
 returns-2 : tie.Need-returns-2
 returns-2 c =
-    at-limit (c .before .before .before .before .before .before .before .pre) (c .before .before .before .before .before .find .ensures) (c .before .before .before .before .corner-of .ensures) (c .before .before .simplex-of .ensures) (c .if2 .taken)
+    let h = c .before .before .before .before .before .before .before .pre in
+    let f = c .before .before .before .before .before .find .ensures in
+    let k = c .before .before .before .before .corner-of .ensures in
+    at-limit h f k (c .before .before .simplex-of .ensures) (c .if2 .taken)
 
 exit-requires : tie.Need-exit-requires
 exit-requires c κs =
@@ -44,8 +50,11 @@ next-requires c κs =
 
 returns-3 : tie.Need-returns-3
 returns-3 c =
+    let h = c .before .before .before .before .before .before .before .before .before .before .pre in
+    let f = c .before .before .before .before .before .before .before .before .find .ensures in
+    let k = c .before .before .before .before .before .before .before .corner-of .ensures in
     let v = c .before .before .before .before .before .simplex-of .ensures in
-    leads (c .before .before .before .before .before .before .before .before .before .before .pre) (c .before .before .before .before .before .before .before .before .find .ensures) (c .before .before .before .before .before .before .before .corner-of .ensures) v (no-stop v (c .before .before .before .before .if1 .left) (c .before .before .before .if2 .left)) (c .before .exit .ensures) (c .next .ensures)
+    leads h f k v (no-stop v (c .before .before .before .before .if1 .left) (c .before .before .before .if2 .left)) (c .before .exit .ensures) (c .next .ensures)
 
 pub onward-spec : {M : Type 1} → statement M
 onward-spec =

@@ -21,7 +21,11 @@ simplex-values-requires c κs = search needs
 
 returns : tie.Need-returns
 returns c =
-    row-found (c .before .before .before .before .before .before .before .args .corner) (c .before .before .before .before .before .before .before .pre .1 .0) (c .before .before .before .before .before .vertex-mask .ensures) (c .before .before .before .before .vertex-mask2 .ensures) (c .before .before .before .vertex-mask3 .ensures) (c .before .before .vertex-mask4 .ensures)
+    row-found _ (c .before .before .before .before .before .before .before .pre .1 .0)
+    (c .before .before .before .before .before .vertex-mask .ensures)
+    (c .before .before .before .before .vertex-mask2 .ensures)
+    (c .before .before .before .vertex-mask3 .ensures)
+    (c .before .before .vertex-mask4 .ensures)
     (c .simplex-values .ensures)
 
 pub simplex-of-spec : {M : Type 1} → statement M

@@ -47,9 +47,10 @@ returns-2 : tie.Need-returns-2
 returns-2 c =
     let a = c .before .before .before .before .before .before .before .before .before .args in
     let x = placeAs (a .n) (a .here) in
+    let l = subst (AheadIs (a .job .now) (a .n) x) (c .enum-told .given .1) (c .before .before .onward .ensures) in
     record {
       buffer = c .before .before .before .before .before .write-place .ensures;
-      answer = ends-at-edge (a .job .now) (a .n) (placeAs (a .n) (a .start)) x (subst (AheadIs (a .job .now) (a .n) x) (c .enum-told .given .1) (c .before .before .onward .ensures));
+      answer = ends-at-edge (a .job .now) (a .n) (placeAs (a .n) (a .start)) x l;
     }
 
 same-length-3 : tie.Need-same-length-3
@@ -59,9 +60,10 @@ returns-3 : tie.Need-returns-3
 returns-3 c =
     let a = c .before .before .before .before .before .before .before .before .before .args in
     let x = placeAs (a .n) (a .here) in
+    let l = subst (AheadIs (a .job .now) (a .n) x) (c .enum-told2 .given .1) (c .before .before .onward .ensures) in
     record {
       buffer = c .before .before .before .before .before .write-place .ensures;
-      answer = ends-at-limit (a .job .now) (a .n) (placeAs (a .n) (a .start)) x (subst (AheadIs (a .job .now) (a .n) x) (c .enum-told2 .given .1) (c .before .before .onward .ensures));
+      answer = ends-at-limit (a .job .now) (a .n) (placeAs (a .n) (a .start)) x l;
     }
 
 same-length-4 : tie.Need-same-length-4

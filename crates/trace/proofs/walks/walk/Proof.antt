@@ -37,13 +37,19 @@ visit-requires c κs =
     (c .before .before .before .before .before .pre, (u .held, has-room u (c .before .loop-test .taken)))
 
 add-count : tie.Need-add-count Inv-loop μ-loop
-add-count c = omega (arith, counts-on (c .before .before .before .before .before .loop .inv) (c .before .before .before .before .loop-test .taken), c .before .before .before .before .before .before .before .before .good)
+add-count c =
+    let on = counts-on (c .before .before .before .before .before .loop .inv) (c .before .before .before .before .loop-test .taken) in
+    omega (arith, on, c .before .before .before .before .before .before .before .before .good)
 
 enum-known-after : tie.Need-enum-known-after Inv-loop μ-loop
 enum-known-after c = search needs
 
 same-length : tie.Need-same-length Inv-loop μ-loop
-same-length c = after-size (c .before .before .before .before .before .before .before .before .loop .inv) (c .before .before .before .before .before .before .before .loop-test .taken) (c .before .before .before .before .before .visit .ensures)
+same-length c =
+    after-size
+    (c .before .before .before .before .before .before .before .before .loop .inv)
+    (c .before .before .before .before .before .before .before .loop-test .taken)
+    (c .before .before .before .before .before .visit .ensures)
 
 returns : tie.Need-returns Inv-loop μ-loop
 returns c =
