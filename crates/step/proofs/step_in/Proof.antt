@@ -2,7 +2,6 @@
 use borrow.Author.Needs.{needs}
 use mathlib.Core.Path.{subst}
 use Rattle.paper.specs.Answers.{steppedAs, paddedNext}
-use Rattle.places.specs.Held.{placeAs}
 use Rattle.job.proofs.OpenJob.{job-axes}
 use Rattle.columns.proofs.FacetColumns.{zero-cells}
 use Rattle.step.specs.Ahead.{AheadIs}
