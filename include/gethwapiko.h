@@ -5,12 +5,13 @@
  * nothing is allocated, and only the buffer of gethwapiko_trace is written; it must not overlap the job.
  *
  * The field `refusal` is 0 or the number of the refusal; beside a refusal every other field is 0.
- * A field that an answer does not use is 0: terms2, z and mask2 in dimension 2, the place of an edge, the point of a close.
+ * A field that an answer does not use is 0: terms2, z and mask2 in dimension 2, terms3, w and mask3 below dimension 4, the place of an
+ * edge, the point of a close.
  *
  * Refusals, in the order in which Open tests them; every other function opens the job first:
  *    1  fewer than 4 bytes                 5  contents cut short, bodies not adjacent, or a length wrong for its kind
  *    2  byte 0 or 3 wrong                  6  box
- *    3  dimension                          7  a term, or the order of terms
+ *    3  dimension not 2, 3 or 4            7  a term, or the order of terms
  *    4  entry count                        8  the start's masks or side
  * and of a place or an index:
  *    9  a vertex outside the box          12  index past the last
@@ -31,9 +32,10 @@ extern "C" {
 
 typedef struct {
     uint64_t refusal;
-    uint64_t n;      /* the dimension, 2 or 3 */
+    uint64_t n;      /* the dimension, 2, 3 or 4 */
     uint64_t terms1; /* the terms of polynomial 1 */
     uint64_t terms2; /* the terms of polynomial 2 */
+    uint64_t terms3; /* the terms of polynomial 3 */
 } OpenAnswer;
 
 typedef struct {
@@ -49,16 +51,16 @@ typedef struct {
 
 typedef struct {
     uint64_t refusal;
-    int64_t x, y, z; /* in steps of 1/1024, rounded down */
+    int64_t x, y, z, w; /* in steps of 1/1024, rounded down */
 } PointAnswer;
 
 enum { GETHWAPIKO_NEXT = 0, GETHWAPIKO_STEP_EDGE = 1, GETHWAPIKO_STEP_LIMIT = 2 };
 
 typedef struct {
     uint64_t refusal;
-    uint64_t outcome; /* 0 the next place, 1 edge, 2 limit */
-    int64_t x, y, z;  /* the next place's lowest vertex */
-    uint64_t mask1, mask2;
+    uint64_t outcome;   /* 0 the next place, 1 edge, 2 limit */
+    int64_t x, y, z, w; /* the next place's lowest vertex */
+    uint64_t mask1, mask2, mask3;
     uint64_t side;
 } StepAnswer;
 
@@ -75,7 +77,7 @@ enum { GETHWAPIKO_LIFT = 0, GETHWAPIKO_DRAW = 1, GETHWAPIKO_CLOSE = 2 };
 typedef struct {
     uint64_t refusal;
     uint64_t kind;  /* 0 lift, 1 draw, 2 close */
-    double x, y, z; /* in millimetres: the steps divided by 1024, exactly */
+    double x, y, z; /* on axes 1 to 3, in millimetres: the steps divided by 1024, exactly */
 } PenAnswer;
 
 /* Open: the dimension and each polynomial's count of terms. Refusals 1 to 8. */

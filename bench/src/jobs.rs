@@ -32,13 +32,18 @@ fn all_terms(n: usize, coefficient: impl Fn(&[u8]) -> i64) -> Vec<Term> {
     exponents(n).iter().map(|e| term(coefficient(e), e)).collect()
 }
 
-/// A job in a cube around the origin.
+/// A job in a cube around the origin, with its start.
+fn job_from(reach: i64, polynomials: Vec<Vec<Term>>, start: Place) -> Parts {
+    let n = start.facet.n;
+    Parts { n, ends: vec![(-reach, reach); n], polynomials, start }
+}
+
+/// A job in a cube around the origin, whose start is searched for.
 fn job(reach: i64, polynomials: Vec<Vec<Term>>) -> Parts {
     let n = polynomials.len() + 1;
     let lowest = vec![0; n];
     let masks: Vec<u8> = (1..n).map(|k| (1 << k) - 1).collect();
-    let start = place(&lowest, &masks, 0);
-    crossed_start(Parts { n, ends: vec![(-reach, reach); n], polynomials, start })
+    crossed_start(job_from(reach, polynomials, place(&lowest, &masks, 0)))
 }
 
 /// Name and bytes of each job.
@@ -46,15 +51,40 @@ pub fn jobs() -> Vec<(&'static str, Vec<u8>)> {
     let circle = gathered(&[term(1, &[2]), term(1, &[0, 2]), term(-62_500, &[])]);
     let sphere = [term(1, &[2]), term(1, &[0, 2]), term(1, &[0, 0, 2]), term(-8_100, &[])];
     let plane = gathered(&[term(3, &[1]), term(2, &[0, 1]), term(1, &[0, 0, 1])]);
-    // A closed curve or surface, and a surface close to x = y.
-    let round = |n| all_terms(n, |e| if e.iter().all(|&x| x == 0) { -1_000_000 } else { 1 });
-    let slanting = all_terms(3, |e| if e[0] < e[1] { -1 } else { 1 });
+    // A closed curve or surface, and a surface close to where axes k and k + 1 are equal.
+    let round =
+        |n, size: i64| all_terms(n, move |e| if e.iter().all(|&x| x == 0) { -size } else { 1 });
+    let slanting = |n, k: usize| all_terms(n, move |e| if e[k - 1] < e[k] { -1 } else { 1 });
+    let sphere_4 = gathered(&[&sphere[..], &[term(1, &[0, 0, 0, 2])]].concat());
+    let diagonal = gathered(&[term(1, &[1]), term(-1, &[0, 0, 0, 1])]);
+    let quartics_4 = vec![round(4, 100_000), slanting(4, 1), slanting(4, 2)];
     let all = [
         ("circle_3", job(256, vec![circle])),
-        ("quartic_15", job(60, vec![round(2)])),
+        ("quartic_15", job(60, vec![round(2, 1_000_000)])),
         ("sphere_plane_4_3", job(100, vec![gathered(&sphere), plane.clone()])),
-        ("quartic_plane_35_3", job(50, vec![round(3), plane])),
-        ("two_quartics_35_35", job(50, vec![round(3), slanting])),
+        ("quartic_plane_35_3", job(50, vec![round(3, 1_000_000), plane.clone()])),
+        ("two_quartics_35_35", job(50, vec![round(3, 1_000_000), slanting(3, 1)])),
+        // In dimension 4 a search would take long.
+        (
+            "sphere_planes_5_3_2",
+            job_from(
+                100,
+                vec![sphere_4, plane.clone(), diagonal.clone()],
+                place(&[-2, 41, -80, -2], &[1, 11, 15], 0),
+            ),
+        ),
+        (
+            "quartic_planes_70_3_2",
+            job_from(
+                30,
+                vec![round(4, 100_000), plane, diagonal],
+                place(&[0, -11, 18, 0], &[1, 13, 15], 0),
+            ),
+        ),
+        (
+            "three_quartics_70_70_70",
+            job_from(30, quartics_4, place(&[-14, 7, 17, 0], &[1, 3, 15], 0)),
+        ),
     ];
     all.into_iter().map(|(name, parts)| (name, parts.bytes())).collect()
 }

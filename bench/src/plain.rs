@@ -2,28 +2,29 @@
 //! current simplex' vertices along and sums the polynomials at one new vertex a step. It takes
 //! a job that opens and tests nothing of it. Unproved; compared with the reference by the tests
 //! of `lib.rs`.
+//!
+//! n is a variable. The arrays have room for A axes, P polynomials and V vertices: one more of
+//! each in dimension 4, so that the smaller dimensions carry nothing along that they do not have.
 
 use reference::operations::Verdict;
 
-const READABLE: i64 = 268_435_456;
-
-struct Term {
+struct Term<const A: usize> {
     coefficient: i64,
-    exponents: [usize; 3],
+    exponents: [usize; A],
 }
 
-struct Job {
+struct Job<const A: usize, const P: usize> {
     n: usize,
-    ends: [(i64, i64); 3],
-    polynomials: [Vec<Term>; 2],
+    ends: [(i64, i64); A],
+    polynomials: [Vec<Term<A>>; P],
 }
 
 /// A simplex with the values at its vertices and the vertex behind the facet it was entered by.
 #[derive(Clone, Copy)]
-struct Simplex {
-    corner: [i64; 3],
-    order: [usize; 3],
-    values: [[i64; 2]; 4],
+struct Simplex<const A: usize, const P: usize, const V: usize> {
+    corner: [i64; A],
+    order: [usize; A],
+    values: [[i64; P]; V],
     extra: usize,
 }
 
@@ -31,7 +32,7 @@ fn signed_16(bytes: &[u8]) -> i64 {
     i16::from_le_bytes([bytes[0], bytes[1]]) as i64
 }
 
-fn read(job: &[u8]) -> (Job, &[u8]) {
+fn read<const A: usize, const P: usize>(job: &[u8]) -> (Job<A, P>, &[u8]) {
     let n = job[1] as usize;
     let body = |k: usize| {
         let entry = &job[4 + 4 * k..8 + 4 * k];
@@ -39,42 +40,47 @@ fn read(job: &[u8]) -> (Job, &[u8]) {
         let length = u16::from_le_bytes([entry[2], entry[3]]) as usize;
         &job[offset..offset + length]
     };
-    let mut ends = [(0, 0); 3];
+    let mut ends = [(0, 0); A];
     for (axis, bytes) in body(0).chunks_exact(4).enumerate() {
         ends[axis] = (signed_16(bytes), signed_16(&bytes[2..]));
     }
-    let terms = |k: usize| -> Vec<Term> {
+    let terms = |k: usize| -> Vec<Term<A>> {
         let all = body(k).chunks_exact(8);
         all.map(|b| Term {
             coefficient: i32::from_le_bytes([b[0], b[1], b[2], b[3]]) as i64,
-            exponents: [b[4] as usize, b[5] as usize, b[6] as usize],
+            exponents: std::array::from_fn(|axis| b[4 + axis] as usize),
         })
         .collect()
     };
-    let polynomials = [terms(1), if n == 3 { terms(2) } else { Vec::new() }];
+    let polynomials = std::array::from_fn(|k| if k + 1 < n { terms(k + 1) } else { Vec::new() });
     (Job { n, ends, polynomials }, body(n))
 }
 
-impl Job {
-    fn holds(&self, v: &[i64; 3]) -> bool {
+impl<const A: usize, const P: usize> Job<A, P> {
+    const READABLE: i64 = if A == 4 { 524_288 } else { 268_435_456 };
+
+    fn holds(&self, v: &[i64; A]) -> bool {
         (0..self.n).all(|k| self.ends[k].0 <= v[k] && v[k] <= self.ends[k].1)
     }
 
     /// The values at a vertex, or none if one of them is not readable.
-    fn values(&self, v: &[i64; 3]) -> Option<[i64; 2]> {
-        let mut powers = [[1i64; 5]; 3];
+    fn values(&self, v: &[i64; A]) -> Option<[i64; P]> {
+        let mut powers = [[1i64; 5]; A];
         for axis in 0..self.n {
             for e in 1..5 {
                 powers[axis][e] = powers[axis][e - 1] * v[axis];
             }
         }
-        let mut values = [0i64; 2];
+        let mut values = [0i64; P];
         for k in 0..self.n - 1 {
             for t in &self.polynomials[k] {
-                let [x, y, z] = t.exponents;
-                values[k] += t.coefficient * powers[0][x] * powers[1][y] * powers[2][z];
+                let mut product = t.coefficient;
+                for axis in 0..A {
+                    product *= powers[axis][t.exponents[axis]];
+                }
+                values[k] += product;
             }
-            if values[k] < -READABLE || values[k] > READABLE {
+            if values[k] < -Self::READABLE || values[k] > Self::READABLE {
                 return None;
             }
         }
@@ -83,7 +89,7 @@ impl Job {
 }
 
 /// The sign of the first number that is not 0.
-fn first_sign(numbers: [i64; 3]) -> i64 {
+fn first_sign<const COUNT: usize>(numbers: [i64; COUNT]) -> i64 {
     for x in numbers {
         if x != 0 {
             return x.signum();
@@ -93,8 +99,8 @@ fn first_sign(numbers: [i64; 3]) -> i64 {
 }
 
 /// Crossed, for n = 3: the coefficients of each vertex by cyclic exchange of columns.
-fn is_crossed_3(w: [[i64; 2]; 3]) -> bool {
-    let power_0 = |a: [i64; 2], b: [i64; 2]| a[0] * b[1] - b[0] * a[1];
+fn is_crossed_3<const P: usize>(w: [[i64; P]; 3]) -> bool {
+    let power_0 = |a: [i64; P], b: [i64; P]| a[0] * b[1] - b[0] * a[1];
     let d = power_0(w[1], w[2]) + power_0(w[2], w[0]) + power_0(w[0], w[1]);
     if d == 0 {
         return false;
@@ -108,8 +114,35 @@ fn is_crossed_3(w: [[i64; 2]; 3]) -> bool {
     true
 }
 
-impl Simplex {
-    fn vertex(&self, i: usize) -> [i64; 3] {
+/// Crossed, for n = 4: the coefficients of each vertex are the minors of the other columns.
+fn is_crossed_4<const P: usize>(w: [[i64; P]; 4]) -> bool {
+    let (mut d, mut signs) = (0, [0; 4]);
+    for i in 0..4 {
+        let others = [0, 1, 2].map(|k| w[if k < i { k } else { k + 1 }]);
+        let [a, b, c] = others.map(|v| [1, v[0], v[1], v[2]]);
+        // The minor of these rows, with another sign for every other vertex.
+        let minor = |k: usize, l: usize, m: usize| {
+            let sum = a[k] * (b[l] * c[m] - c[l] * b[m]) - b[k] * (a[l] * c[m] - c[l] * a[m])
+                + c[k] * (a[l] * b[m] - b[l] * a[m]);
+            if i % 2 == 0 {
+                sum
+            } else {
+                -sum
+            }
+        };
+        let power_0 = minor(1, 2, 3);
+        d += power_0;
+        signs[i] = if power_0 != 0 {
+            power_0.signum()
+        } else {
+            first_sign([-minor(0, 2, 3), minor(0, 1, 3), -minor(0, 1, 2)])
+        };
+    }
+    d != 0 && signs.iter().all(|&sign| sign == d.signum())
+}
+
+impl<const A: usize, const P: usize, const V: usize> Simplex<A, P, V> {
+    fn vertex(&self, i: usize) -> [i64; A] {
         let mut v = self.corner;
         for &axis in &self.order[..i] {
             v[axis] += 1;
@@ -119,16 +152,16 @@ impl Simplex {
 
     fn is_crossed_without(&self, n: usize, i: usize) -> bool {
         let at = |k: usize| self.values[if k < i { k } else { k + 1 }];
-        if n == 2 {
-            (at(0)[0] > 0) != (at(1)[0] > 0)
-        } else {
-            is_crossed_3([at(0), at(1), at(2)])
+        match n {
+            2 => (at(0)[0] > 0) != (at(1)[0] > 0),
+            3 => is_crossed_3([at(0), at(1), at(2)]),
+            _ => is_crossed_4([at(0), at(1), at(2), at(3)]),
         }
     }
 
     /// The place of the facet without vertex i, its side leading out of this simplex.
-    fn place_without(&self, n: usize, i: usize) -> [u8; 9] {
-        let mut place = [0u8; 9];
+    fn place_without(&self, n: usize, i: usize) -> [u8; 12] {
+        let mut place = [0u8; 12];
         let lowest = if i == 0 { self.vertex(1) } else { self.corner };
         for axis in 0..n {
             place[2 * axis..2 * axis + 2].copy_from_slice(&(lowest[axis] as i16).to_le_bytes());
@@ -154,7 +187,7 @@ impl Simplex {
     }
 
     /// The simplex on the other side of the facet without vertex i.
-    fn across(&self, n: usize, i: usize) -> Simplex {
+    fn across(&self, n: usize, i: usize) -> Self {
         let mut next = *self;
         if i == 0 {
             next.corner[self.order[0]] += 1;
@@ -174,13 +207,13 @@ impl Simplex {
     }
 
     /// The simplex on the side of a place; its values are not yet known.
-    fn of_place(n: usize, place: &[u8]) -> Simplex {
-        let mut corner = [0i64; 3];
+    fn of_place(n: usize, place: &[u8]) -> Self {
+        let mut corner = [0i64; A];
         for axis in 0..n {
             corner[axis] = signed_16(&place[2 * axis..]);
         }
         let side = place[3 * n - 1];
-        let (mut order, mut count, mut before) = ([0; 3], 0, 0u8);
+        let (mut order, mut count, mut before) = ([0; A], 0, 0u8);
         let mut extra = n;
         for &mask in &place[2 * n..3 * n - 1] {
             let mut added: Vec<usize> = (0..n).filter(|k| (mask & !before) >> k & 1 == 1).collect();
@@ -205,17 +238,19 @@ impl Simplex {
                 extra = 0;
             }
         }
-        Simplex { corner, order, values: [[0; 2]; 4], extra }
+        Simplex { corner, order, values: [[0; P]; V], extra }
     }
 }
 
-/// Trace of a job that opens.
-pub fn trace(bytes: &[u8], buffer: &mut [u8]) -> Result<(Verdict, usize), u8> {
-    let (job, start) = read(bytes);
+fn trace_in<const A: usize, const P: usize, const V: usize>(
+    bytes: &[u8],
+    buffer: &mut [u8],
+) -> Result<(Verdict, usize), u8> {
+    let (job, start) = read::<A, P>(bytes);
     let n = job.n;
     let size = 3 * n;
     let space = buffer.len() / size;
-    let mut here = Simplex::of_place(n, start);
+    let mut here: Simplex<A, P, V> = Simplex::of_place(n, start);
     let own = |extra: usize| (0..=n).filter(move |&i| i != extra);
     if !own(here.extra).all(|i| job.holds(&here.vertex(i))) {
         return Err(9);
@@ -226,7 +261,7 @@ pub fn trace(bytes: &[u8], buffer: &mut [u8]) -> Result<(Verdict, usize), u8> {
     if !here.is_crossed_without(n, here.extra) {
         return Err(11);
     }
-    let mut place = [0u8; 9];
+    let mut place = [0u8; 12];
     place[..size].copy_from_slice(start);
     let mut count = 0;
     loop {
@@ -251,5 +286,14 @@ pub fn trace(bytes: &[u8], buffer: &mut [u8]) -> Result<(Verdict, usize), u8> {
             return Ok((Verdict::Loop, count));
         }
         here = here.across(n, exit);
+    }
+}
+
+/// Trace of a job that opens.
+pub fn trace(job: &[u8], buffer: &mut [u8]) -> Result<(Verdict, usize), u8> {
+    if job[1] < 4 {
+        trace_in::<3, 2, 4>(job, buffer)
+    } else {
+        trace_in::<4, 3, 5>(job, buffer)
     }
 }

@@ -25,21 +25,22 @@ use Rattle.cabi.proofs.Padding.{point-unpadded, step-unpadded}
 pub point-as : (a b : Answer (List ℤ)) → b ≡ paddedPoint a → pointNumbers b ≡ pointNumbers a
 point-as a b h = ap pointNumbers h ∙ point-unpadded a
 
-pub point-at : (a : Answer (List ℤ)) {x y z u v w : ℤ} → u ≡ x → v ≡ y → w ≡ z → answered (x ∷ y ∷ z ∷ []) ≡ paddedPoint a
-    → _≡_ {A = PointAnswer} (record { refusal = 0; x = u; y = v; z = w }) (pointNumbers a)
+pub point-at : (a : Answer (List ℤ)) {x y z w x′ y′ z′ w′ : ℤ} → x′ ≡ x → y′ ≡ y → z′ ≡ z → w′ ≡ w
+    → answered (x ∷ y ∷ z ∷ w ∷ []) ≡ paddedPoint a
+    → _≡_ {A = PointAnswer} (record { refusal = 0; x = x′; y = y′; z = z′; w = w′ }) (pointNumbers a)
 unfolding pointNumbers
-point-at a {x} {y} {z} e f g h = rw (e, f, g) (point-as a (answered (x ∷ y ∷ z ∷ [])) h)
+point-at a {x} {y} {z} {w} e f g i h = rw (e, f, g, i) (point-as a (answered (x ∷ y ∷ z ∷ w ∷ [])) h)
 
 -- ---- Step
 
 pub step-as : (a b : Answer (Next Place Stop)) → b ≡ paddedStep a → stepNumbers b ≡ stepNumbers a
 step-as a b h = ap stepNumbers h ∙ step-unpadded a
 
-pub step-next : (a : Answer (Next Place Stop)) {x y z u v w : ℤ} {m l s : ℕ} → u ≡ x → v ≡ y → w ≡ z
-    → answered (go (record { facet = record { low = x ∷ y ∷ z ∷ []; masks = m ∷ l ∷ [] }; side = s })) ≡ paddedStep a
-    → _≡_ {A = StepAnswer} (record { refusal = 0; outcome = 0; x = u; y = v; z = w; mask1 = m; mask2 = l; side = s }) (stepNumbers a)
+pub step-next : (a : Answer (Next Place Stop)) {x y z w x′ y′ z′ w′ : ℤ} {k l m s : ℕ} → x′ ≡ x → y′ ≡ y → z′ ≡ z → w′ ≡ w
+    → answered (go (record { facet = record { low = x ∷ y ∷ z ∷ w ∷ []; masks = k ∷ l ∷ m ∷ [] }; side = s })) ≡ paddedStep a
+    → _≡_ {A = StepAnswer} (record { refusal = 0; outcome = 0; x = x′; y = y′; z = z′; w = w′; mask1 = k; mask2 = l; mask3 = m; side = s }) (stepNumbers a)
 unfolding stepNumbers
-step-next a e f g h = rw (e, f, g) (step-as a _ h)
+step-next a e f g i h = rw (e, f, g, i) (step-as a _ h)
 
 -- ---- Trace
 

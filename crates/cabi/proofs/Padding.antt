@@ -1,4 +1,4 @@
--- Point's and Step's structs say the same of an answer and of the answer padded to three axes: a field past the end is 0 either way.
+-- Point's and Step's structs say the same of an answer and of the answer padded to four axes: a field past the end is 0 either way.
 use mathlib.Core.Path.{_≡_, refl}
 use mathlib.Core.List.{List, [], _∷_}
 use Prim.Native.Nat.{ℕ, zero, suc, _<_}
@@ -26,7 +26,12 @@ pub point-unpadded : (a : Answer (List ℤ)) → pointNumbers (paddedPoint a) �
 unfolding pointNumbers paddedPoint
 point-unpadded (refused k) = refl
 point-unpadded (answered v) =
-    rw (getD-padded 0ℤ 3 0 v (lit< tt), getD-padded 0ℤ 3 1 v (lit< tt), getD-padded 0ℤ 3 2 v (lit< tt))
+    rw (
+      getD-padded 0ℤ 4 0 v (lit< tt),
+      getD-padded 0ℤ 4 1 v (lit< tt),
+      getD-padded 0ℤ 4 2 v (lit< tt),
+      getD-padded 0ℤ 4 3 v (lit< tt),
+    )
 
 pub step-unpadded : (a : Answer (Next Place Stop)) → stepNumbers (paddedStep a) ≡ stepNumbers a
 unfolding stepNumbers paddedStep paddedNext paddedPlace
@@ -36,9 +41,11 @@ step-unpadded (answered (go p)) =
     let low = p .facet .low in
     let masks = p .facet .masks in
     rw (
-      getD-padded 0ℤ 3 0 low (lit< tt),
-      getD-padded 0ℤ 3 1 low (lit< tt),
-      getD-padded 0ℤ 3 2 low (lit< tt),
-      getD-padded 0 2 0 masks (lit< tt),
-      getD-padded 0 2 1 masks (lit< tt),
+      getD-padded 0ℤ 4 0 low (lit< tt),
+      getD-padded 0ℤ 4 1 low (lit< tt),
+      getD-padded 0ℤ 4 2 low (lit< tt),
+      getD-padded 0ℤ 4 3 low (lit< tt),
+      getD-padded 0 3 0 masks (lit< tt),
+      getD-padded 0 3 1 masks (lit< tt),
+      getD-padded 0 3 2 masks (lit< tt),
     )

@@ -1,5 +1,5 @@
 -- The answers of the operations as the C interface's structs. Refusal 0 is none; beside a refusal every other field is 0, and so is a field
--- that an answer does not use: the axis, the mask or the count that dimension 2 does not have, the place of an edge, the point of a close.
+-- that an answer does not use: the axes, the masks and the counts that a lower dimension does not have, the place of an edge, the point of a close.
 use Prim.Native.Nat.{ℕ}
 use mathlib.Core.Bool.{Bool, true, false, not}
 use mathlib.Core.List.{List}
@@ -24,8 +24,8 @@ use Rattle.cabi.specs.declared.PenAnswer.{PenAnswer}
 
 -- n and each polynomial's count of terms
 unfoldable pub openNumbers : Answer (List ℕ) → OpenAnswer
-openNumbers (refused k) = record { refusal = k; n = 0; terms1 = 0; terms2 = 0 }
-openNumbers (answered v) = record { refusal = 0; n = getD v 0 0; terms1 = getD v 1 0; terms2 = getD v 2 0 }
+openNumbers (refused k) = record { refusal = k; n = 0; terms1 = 0; terms2 = 0; terms3 = 0 }
+openNumbers (answered v) = record { refusal = 0; n = getD v 0 0; terms1 = getD v 1 0; terms2 = getD v 2 0; terms3 = getD v 3 0 }
 
 -- where body k lies in the job
 unfoldable pub bodyEntry : List ℕ → ℕ → Answer (ℕ × ℕ)
@@ -43,8 +43,8 @@ judgeNumbers (answered false) = record { refusal = 0; crossed = 0 }
 
 -- the point in steps of 1/1024
 unfoldable pub pointNumbers : Answer (List ℤ) → PointAnswer
-pointNumbers (refused k) = record { refusal = k; x = 0ℤ; y = 0ℤ; z = 0ℤ }
-pointNumbers (answered v) = record { refusal = 0; x = getD v 0 0ℤ; y = getD v 1 0ℤ; z = getD v 2 0ℤ }
+pointNumbers (refused k) = record { refusal = k; x = 0ℤ; y = 0ℤ; z = 0ℤ; w = 0ℤ }
+pointNumbers (answered v) = record { refusal = 0; x = getD v 0 0ℤ; y = getD v 1 0ℤ; z = getD v 2 0ℤ; w = getD v 3 0ℤ }
 
 -- outcome 0 the next place, 1 edge, 2 limit
 unfoldable pub withoutPlace : ℕ → ℕ → StepAnswer
@@ -54,8 +54,10 @@ withoutPlace refusal outcome = record {
   x = 0ℤ;
   y = 0ℤ;
   z = 0ℤ;
+  w = 0ℤ;
   mask1 = 0;
   mask2 = 0;
+  mask3 = 0;
   side = 0;
 }
 
@@ -69,8 +71,10 @@ stepNumbers (answered (go p)) = record {
   x = getD (p .facet .low) 0 0ℤ;
   y = getD (p .facet .low) 1 0ℤ;
   z = getD (p .facet .low) 2 0ℤ;
+  w = getD (p .facet .low) 3 0ℤ;
   mask1 = getD (p .facet .masks) 0 0;
   mask2 = getD (p .facet .masks) 1 0;
+  mask3 = getD (p .facet .masks) 2 0;
   side = p .side;
 }
 

@@ -16,7 +16,8 @@ ghost use lib.ListN.{length, take, drop};
 ghost use Rattle.paper.specs.Operations.{opened, bodyPart, judged, pointed, stepped, traced, spaceOf, verdictAndCount, bufferAfter};
 ghost use Rattle.paper.specs.Answers.{verdictAs};
 ghost use Rattle.paper.specs.Pen.{penned};
-ghost use Rattle.cabi.specs.Numbers.{openNumbers, bodyEntry, bodyNumbers, judgeNumbers, pointNumbers, withoutPlace, stepNumbers, verdictNumber, traceNumbers, isSet, withoutPoint, penNumbers};
+ghost use Rattle.cabi.specs.Numbers.{openNumbers, bodyEntry, bodyNumbers, judgeNumbers, pointNumbers, withoutPlace, stepNumbers};
+ghost use Rattle.cabi.specs.Numbers.{verdictNumber, traceNumbers, isSet, withoutPoint, penNumbers};
 
 #[repr(C)]
 pub struct OpenAnswer {
@@ -24,6 +25,7 @@ pub struct OpenAnswer {
     pub n: u64,
     pub terms1: u64,
     pub terms2: u64,
+    pub terms3: u64,
 }
 
 #[repr(C)]
@@ -46,6 +48,7 @@ pub struct PointAnswer {
     pub x: i64,
     pub y: i64,
     pub z: i64,
+    pub w: i64,
 }
 
 // Outcome 0: the next place; 1: edge; 2: limit.
@@ -56,8 +59,10 @@ pub struct StepAnswer {
     pub x: i64,
     pub y: i64,
     pub z: i64,
+    pub w: i64,
     pub mask1: u64,
     pub mask2: u64,
+    pub mask3: u64,
     pub side: u64,
 }
 
@@ -90,12 +95,19 @@ pub extern "C" fn gethwapiko_open(job: &[u8]) -> OpenAnswer
             n: 0,
             terms1: 0,
             terms2: 0,
+            terms3: 0,
         },
-        Opened::Job { n, terms1, terms2 } => OpenAnswer {
+        Opened::Job {
+            n,
+            terms1,
+            terms2,
+            terms3,
+        } => OpenAnswer {
             refusal: 0,
             n,
             terms1,
             terms2,
+            terms3,
         },
     }
 }
@@ -155,12 +167,14 @@ pub extern "C" fn gethwapiko_point(job: &[u8], place: &[u8]) -> PointAnswer
             x: 0,
             y: 0,
             z: 0,
+            w: 0,
         },
-        Pointed::At(p) => PointAnswer {
+        Pointed::At(q) => PointAnswer {
             refusal: 0,
-            x: p.x,
-            y: p.y,
-            z: p.z,
+            x: q.x,
+            y: q.y,
+            z: q.z,
+            w: q.w,
         },
     }
 }
@@ -175,8 +189,10 @@ fn without_place(refusal: u64, outcome: u64) -> StepAnswer
         x: 0,
         y: 0,
         z: 0,
+        w: 0,
         mask1: 0,
         mask2: 0,
+        mask3: 0,
         side: 0,
     }
 }
@@ -196,8 +212,10 @@ pub extern "C" fn gethwapiko_step(job: &[u8], place: &[u8]) -> StepAnswer
             x: p.x,
             y: p.y,
             z: p.z,
+            w: p.w,
             mask1: p.mask1,
             mask2: p.mask2,
+            mask3: p.mask3,
             side: p.side,
         },
     }

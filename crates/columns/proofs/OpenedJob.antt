@@ -3,31 +3,22 @@
 use mathlib.Core.Path.{_≡_, subst}
 use mathlib.Core.Bool.{true}
 use mathlib.Core.List.{List}
-use Prim.Native.Nat.{ℕ, _*_, _≤_, _<_}
+use Prim.Native.Nat.{ℕ, _*_, _<_}
 use lib.IntN.{ℤ}
 use lib.ListN.{length}
-use lib.Dec.{lit≤}
-use borrow.Author.Tests.{leb-true, le-leb}
+use borrow.Author.Tests.{leb-true}
 use Rattle.exact.specs.Size.{Size}
-use Rattle.exact.proofs.SizeLaws.{size-weaken}
-use Rattle.paper.specs.Limits.{dimensionOk, readableLimit}
 use Rattle.paper.specs.Job.{dimension, body}
 use Rattle.paper.specs.Values.{readableSum, valueOf, fieldOf}
-use Rattle.paper.proofs.Tests.{dimension-range}
 use Rattle.paper.proofs.Bodies.{box-length, terms-high}
 use Rattle.places.specs.declared.Vertex.{Vertex}
 use Rattle.places.specs.Held.{vertexAs}
 use Rattle.job.specs.OpenJob.{JobOf}
-use Rattle.job.proofs.OpenJob.{job-opens, job-dimension, job-axes}
+use Rattle.job.proofs.OpenJob.{job-opens, job-axes}
 use Rattle.values.specs.Box.{Near}
 use Rattle.values.specs.Sums.{Polynomial}
 use Rattle.values.proofs.Inside.{inside-near}
 use Rattle.facets.specs.Cells.{entryLimit}
-
--- readable values are within the limit of the cells, in the dimensions of a job
-readable-entry : (n : ℕ) → dimensionOk n ≡ true → readableLimit n ≤ entryLimit n
-unfolding readableLimit entryLimit
-readable-entry n d = rw (le-leb n 3 (dimension-range n d .high)) (lit≤ tt)
 
 module _ {n : ℕ} {s : List ℕ} (j : JobOf n s) where
   -- the box, under another name for its bytes
@@ -48,7 +39,5 @@ module _ {n : ℕ} {s : List ℕ} (j : JobOf n s) where
   job-near v h = inside-near n (body s 0) v (job-axes j) (rw (j .dimension) (job-opens j .box)) h
 
   pub job-value : (z : ℤ) → readableSum n z ≡ true → Size (entryLimit n) (valueOf z)
-  unfolding readableSum valueOf
-  job-value z h =
-      let s : Size (readableLimit n) z = record { size = leb-true _ _ h } in
-      size-weaken s (readable-entry n (job-dimension j))
+  unfolding readableSum valueOf entryLimit
+  job-value z h = record { size = leb-true _ _ h }

@@ -6,6 +6,7 @@ ghost use mathlib.Core.Path.{_≡_};
 ghost use Prim.Native.Nat.{_+_, _*_, _≤_};
 ghost use lib.ListN.{length};
 ghost use Rattle.paper.specs.Job.{entryOffset, entryLength, contentsEnd, polynomialLengthOk, lengthOk, entriesOk, contentsOk, body};
+ghost use Rattle.bits.specs.Axes.{Axes};
 ghost use Rattle.bits.specs.Read.{Reads};
 ghost use Rattle.contents.specs.Parts.{PartInside, BeginsAt};
 
@@ -25,6 +26,7 @@ fn entry_length(s: &[u8], k: usize) -> usize
 
 // 8 bytes a term, 1 term at least, at most the limit.
 fn polynomial_length_ok(n: usize, l: usize) -> bool
+    requires { ⌜ Axes n ⌝ }
     ensures { λ r. ⌜ r ≡ polynomialLengthOk n l ⌝ }
 {
     if l % 8 != 0 {
@@ -38,7 +40,7 @@ fn polynomial_length_ok(n: usize, l: usize) -> bool
 
 // A body's length is right for its kind: box, polynomial or start.
 fn length_ok(n: usize, k: usize, l: usize) -> bool
-    requires { ⌜ n ≤ 4 ⌝ }
+    requires { ⌜ Axes n ⌝ }
     ensures { λ r. ⌜ r ≡ lengthOk n k l ⌝ }
 {
     if k == 0 {
@@ -52,7 +54,7 @@ fn length_ok(n: usize, k: usize, l: usize) -> bool
 
 // The first body follows the contents, each other begins where the last ended, the last ends the job.
 fn entries_ok(n: usize, s: &[u8]) -> bool
-    requires { ⌜ (n ≤ 4) × (contentsEnd n ≤ length (now s)) ⌝ }
+    requires { ⌜ (Axes n) × (contentsEnd n ≤ length (now s)) ⌝ }
     ensures { λ r. ⌜ r ≡ entriesOk n (now (s .entry)) (n + 1) 0 (contentsEnd n) ⌝ }
 {
     let mut at = 4 * n + 8;
@@ -73,7 +75,7 @@ fn entries_ok(n: usize, s: &[u8]) -> bool
 
 // The contents are whole, the bodies adjacent and of the right lengths.
 pub fn contents_ok(n: usize, s: &[u8]) -> bool
-    requires { ⌜ n ≤ 4 ⌝ }
+    requires { ⌜ Axes n ⌝ }
     ensures { λ r. ⌜ r ≡ contentsOk n (now (s .entry)) ⌝ }
 {
     if s.len() < 4 * n + 8 {

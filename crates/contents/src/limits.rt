@@ -2,23 +2,25 @@
 
 ghost use mathlib.Core.Path.{_≡_};
 ghost use Rattle.paper.specs.Limits.{dimensionOk, termLimit};
+ghost use Rattle.bits.specs.Axes.{Axes};
 
-// The dimensions are 2 and 3.
+// The dimensions are 2, 3 and 4.
 pub fn dimension_ok(n: usize) -> bool
     ensures { λ r. ⌜ r ≡ dimensionOk n ⌝ }
 {
-    if n == 2 {
-        return true;
+    if n < 2 {
+        return false;
     }
-    n == 3
+    n <= 4
 }
 
-// The terms of a polynomial: at most 15 for n = 2, 35 for n = 3.
+// The limits of terms for the dimensions from 2 on.
+const TERM_LIMITS: [usize; 3] = [15, 35, 70];
+
+// The most terms of a polynomial.
 pub fn term_limit(n: usize) -> usize
+    requires { ⌜ Axes n ⌝ }
     ensures { λ r. ⌜ r ≡ termLimit n ⌝ }
 {
-    if n == 2 {
-        return 15;
-    }
-    35
+    TERM_LIMITS[n - 2]
 }

@@ -1,7 +1,7 @@
 -- Finite lists of all there is of a kind: all numbers under a bound, all pairs, all lists of k numbers under a bound; and that each
 -- thing of the kind stands in its list.
 use Prim.Native.Nat.{ℕ, suc, zero, _+_, _<_, _≤_}
-use mathlib.Core.Path.{_≡_, refl, ap, _∙_}
+use mathlib.Core.Path.{_≡_, refl, ap}
 use mathlib.Core.Bool.{Bool, true, false}
 use mathlib.Core.List.{List, [], _∷_, _++_, map, List·Memᴰ·head}
 use mathlib.Core.List.{List·Memᴰ·tail, List·Memᴰ·not-nil, List·Memᴰ·cases-cons, Memᴰ·cast, Memᴰ·map, Memᴰ·append-left, Memᴰ·append-right}
@@ -10,11 +10,9 @@ use native.Mathlib.Omega.{arith}
 use lib.ListN.{length}
 use lib.Dec.{eqb}
 use borrow.Author.Tests.{eqb-true, eqb-false}
-use Rattle.exact.proofs.AndTests.{and-left, and-right}
 use Rattle.exact.specs.Crossed.{countFrom}
 use Rattle.curves.specs.Grid.{under}
 use Rattle.curves.specs.Curve.{_∈_}
-use Rattle.curves.specs.Step.{every}
 use Rattle.curves.proofs.OrderTests.{under-head, under-tail}
 
 pub countFrom-listed : (k m a : ℕ) → k ≤ a → a < k + m → a ∈ countFrom k m
@@ -54,10 +52,3 @@ listsUnder-listed n (suc k) (a ∷ l) e u =
     pairs-listed (λ a l. a ∷ l) (countFrom 0 n) (listsUnder n k) a l
     (countFrom-listed 0 n a (omega arith) (omega (arith, under-head n a l u)))
     (listsUnder-listed n k l (omega arith) (under-tail n a l u))
-
--- a test that holds for each of a list holds for what stands in it
-pub every-listed : {A : Type 0} (t : A → Bool) (xs : List A) (a : A) → every t xs ≡ true → a ∈ xs → t a ≡ true
-unfolding every
-every-listed t [] a e m = absurd (List·Memᴰ·not-nil m)
-every-listed t (x ∷ xs) a e m =
-    ⊎-elim (λ q. ap t q ∙ and-left (t x) (every t xs) e) (λ r. every-listed t xs a (and-right (t x) (every t xs) e) r) (List·Memᴰ·cases-cons m)

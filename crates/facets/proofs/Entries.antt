@@ -13,6 +13,7 @@ use Rattle.exact.proofs.SizeLaws.{size-pos, size-weaken, size-sub, size-mul}
 use Rattle.exact.proofs.Bits.{holds-call, back, back-is}
 use Rattle.exact.proofs.CountFrom.{getD-map-countFrom}
 use Rattle.exact.proofs.SmallDeterminants.{det-two}
+use Rattle.paper.specs.Limits.{readableLimit}
 use Rattle.bits.specs.Axes.{Axes}
 use Rattle.bits.proofs.EachDimension.{each-axes}
 use Rattle.facets.specs.Cells.{Cells, columnAt, entryLimit}
@@ -25,7 +26,7 @@ top-entry cells r v e = ap (λ k. entryAt cells k v) (sym e)
 
 pub lower-entry :
     (cells : List ℤ) (r v : ℕ) → CellsWithin (entryLimit 3) cells → (r ≡ 0 → ⊥) → back (getD cells (3 * v + (r - 1)) 0ℤ) ≡ entryAt cells r v
-unfolding entryAt entryLimit
+unfolding entryAt entryLimit readableLimit
 lower-entry cells zero v w h = absurd (h refl)
 lower-entry cells (suc k) v w h =
     let same : 3 * v + (suc k - 1) ≡ 3 * v + k = omega arith in
@@ -46,19 +47,19 @@ entry-held {m} {cells} w l h r v e = holds-call (record { is = e; size = entry-s
 -- an entry of a determinant of two rows, and one of three
 pub entry-of-two :
     {cells : List ℤ} → CellsWithin (entryLimit 3) cells → (r v : ℕ) {z : ℤ} → z ≡ entryAt cells r v → Is (2 ^ 28) (entryAt cells r v) (back z)
-unfolding entryLimit
+unfolding entryLimit readableLimit
 entry-of-two w r v e = entry-held w (lit≤ tt) (lit≤ tt) r v e
 
 pub entry-of-three :
     {cells : List ℤ} → CellsWithin (entryLimit 4) cells → (r v : ℕ) {z : ℤ} → z ≡ entryAt cells r v → Is (2 ^ 19) (entryAt cells r v) (back z)
-unfolding entryLimit
+unfolding entryLimit readableLimit
 entry-of-three w r v e = entry-held w (lit≤ tt) (lit≤ tt) r v e
 
 -- what a call of `two_rows` gives within a determinant of three rows
 pub two-rows-of-three :
     {cells : List ℤ} → CellsWithin (entryLimit 4) cells → (r s a b : ℕ) {z : ℤ} → z ≡ det (entryAt cells r ∷ entryAt cells s ∷ []) (a ∷ b ∷ [])
     → Is (2 ^ 39) (det (entryAt cells r ∷ entryAt cells s ∷ []) (a ∷ b ∷ [])) (back z)
-unfolding entryLimit
+unfolding entryLimit readableLimit
 two-rows-of-three {cells} w r s a b e =
     let size : (k v : ℕ) → Size (2 ^ 19) (entryAt cells k v) = entry-size (2 ^ 19) cells w (lit≤ tt) in
     holds-call
@@ -77,15 +78,15 @@ pub within-weaken : {m k : ℕ} {cells : List ℤ} → CellsWithin m cells → m
 within-weaken w l = record { count = w .count; entries = λ k. size-weaken (w .entries k) l }
 
 pub limit-most : (n : ℕ) → Axes n → entryLimit n ≤ entryLimit 3
-unfolding entryLimit
+unfolding entryLimit readableLimit
 limit-most = each-axes (λ n. entryLimit n ≤ entryLimit 3) (lit≤ tt) (lit≤ tt) (lit≤ tt)
 
 pub limit-least : (n : ℕ) → Axes n → 1 ≤ entryLimit n
-unfolding entryLimit
+unfolding entryLimit readableLimit
 limit-least = each-axes (λ n. 1 ≤ entryLimit n) (lit≤ tt) (lit≤ tt) (lit≤ tt)
 
 pub within-most : {cells : List ℤ} → CellsWithin (entryLimit 4) cells → CellsWithin (entryLimit 3) cells
-unfolding entryLimit
+unfolding entryLimit readableLimit
 within-most w = within-weaken w (lit≤ tt)
 
 pub cells-most : {n : ℕ} {cells : List ℤ} → Cells n cells → CellsWithin (entryLimit 3) cells

@@ -29,6 +29,7 @@ use Rattle.exact.proofs.Cofactor.{coefficient-minor, alternate-add, alternate-e
 use Rattle.exact.proofs.CoefficientSize.{each-remove}
 use Rattle.exact.proofs.CoefficientSize as size
 use Rattle.exact.proofs.SmallDeterminants.{det-one}
+use Rattle.paper.specs.Limits.{readableLimit}
 use Rattle.bits.specs.Axes.{Axes}
 use Rattle.bits.proofs.EachDimension.{each-axes}
 use Rattle.facets.specs.Cells.{Cells, columnAt, simplexColumns, facetColumns, entryLimit}
@@ -137,7 +138,7 @@ facet-within n cells h out =
     (each-map (EntriesWithin (entryLimit n)) (columnAt n cells) (column-within n cells h) (countFrom 0 (suc n)))
 
 limits-fit : (n : ℕ) → Axes n → factorial (n - 1) * entryLimit n ^ (n - 1) ≤ coefficientLimit
-unfolding factorial entryLimit
+unfolding factorial entryLimit readableLimit
 limits-fit = each-axes (λ n. factorial (n - 1) * entryLimit n ^ (n - 1) ≤ coefficientLimit) (lit≤ tt) (lit≤ tt) (lit≤ tt)
 
 module _ (n : ℕ) (cells : List ℤ) (h : Cells n cells) (out i j : ℕ) (hi : i < n) (hj : j < n) where

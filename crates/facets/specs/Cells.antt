@@ -1,17 +1,16 @@
 -- How the code holds the columns of a simplex: the values at up to five vertices in one array of fifteen numbers. Value k of vertex i stands
 -- at stride * i + k; the 1 on top of a column is not held. A facet is the simplex without one of its vertices; a facet alone takes the
 -- vertices 0 .. n − 1, so it is the one without vertex n.
-use Prim.Native.Nat.{ℕ, suc, _+_, _*_, _-_, _^_}
+use Prim.Native.Nat.{ℕ, suc, _+_, _*_, _-_}
 use mathlib.Core.Path.{_≡_}
-use mathlib.Core.Bool.{cond}
 use mathlib.Core.List.{List, _∷_, map}
 use lib.IntN.{ℤ}
-use lib.Dec.{leb}
 use lib.ListN.{length, getD}
 use Rattle.exact.specs.Int.{0ℤ, 1ℤ}
 use Rattle.exact.specs.Size.{Size}
 use Rattle.exact.specs.Det.{Column}
 use Rattle.exact.specs.Crossed.{countFrom, remove}
+use Rattle.paper.specs.Limits.{readableLimit}
 use Rattle.bits.specs.Axes.{Axes}
 
 -- the numbers held of a vertex: the values of dimension 4
@@ -30,9 +29,9 @@ simplexColumns n cells = map (columnAt n cells) (countFrom 0 (suc n))
 unfoldable pub facetColumns : ℕ → List ℤ → ℕ → List Column
 facetColumns n cells out = remove out (simplexColumns n cells)
 
--- the size of a value up to which no determinant leaves 64 bits: 2 ^ 28 in dimension 2 and 3, 2 ^ 19 in dimension 4
+-- a cell is at most as large as a readable value: up to that size no determinant leaves 64 bits
 unfoldable pub entryLimit : ℕ → ℕ
-entryLimit n = cond (leb n 3) (2 ^ 28) (2 ^ 19)
+entryLimit n = readableLimit n
 
 -- what is asked of the cells: every number, those that do not count too, is within the limit
 pub record Cells (n : ℕ) (cells : List ℤ) : Type 0 where

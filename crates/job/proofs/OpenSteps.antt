@@ -7,6 +7,7 @@ use Prim.Native.Nat.{ℕ, _+_, _-_, _≤_, _<_}
 use native.Mathlib.Omega.{arith}
 use lib.ListN.{length}
 use borrow.Author.Tests.{lt-ltb, le-ltb, eq-eqb, ne-eqb}
+use Rattle.exact.specs.Crossed.{countFrom}
 use Rattle.curves.specs.Grid.{placeOk}
 use Rattle.paper.specs.Bytes.{byte}
 use Rattle.paper.specs.Limits.{dimensionOk}
@@ -87,10 +88,10 @@ pub open-refused : (s : List ℕ) {r : ℕ} → r ≡ openRefusal s → (r ≡ 0
 unfolding opened
 open-refused s e h = ap refused e ∙ sym (unless-refused (openRefusal s) (openValues s) (λ g. h (e ∙ g)))
 
-pub open-answered : (s : List ℕ) {n a b : ℕ} → openRefusal s ≡ 0 → n ≡ dimension s → a ≡ polynomialTerms s 1 → b ≡ polynomialTerms s 2
-    → answered (n ∷ a ∷ b ∷ []) ≡ opened s
-unfolding opened openValues
-open-answered s h e f g = rw (e, f, g) (sym (unless-answered _ h))
+pub open-answered : (s : List ℕ) {n a b d : ℕ} → openRefusal s ≡ 0 → n ≡ dimension s → a ≡ polynomialTerms s 1 → b ≡ polynomialTerms s 2
+    → d ≡ polynomialTerms s 3 → answered (n ∷ a ∷ b ∷ d ∷ []) ≡ opened s
+unfolding opened openValues countFrom
+open-answered s h e f g k = rw (e, f, g, k) (sym (unless-answered _ h))
 
 -- ---- Body's refusal
 

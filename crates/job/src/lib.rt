@@ -115,6 +115,7 @@ pub fn open(job: &[u8]) -> Opened
         n: opened_dimension(job) as u64,
         terms1: polynomial_terms(job, 1),
         terms2: polynomial_terms(job, 2),
+        terms3: polynomial_terms(job, 3),
     }
 }
 

@@ -61,9 +61,9 @@ module _ {n : ℕ} {s p : List ℕ} {here : JobPlace} {cells : List ℤ} (job : 
   masks-are = ap (λ (f : Facet). f .masks) facet
 
   pub point-answered : (v : List ℤ)
-      → v ≡ padded 0ℤ 3 (pointFrom n (facetColumns n cells n) (masksAs n (here .place)) 0 (vertexAs n (here .place .low)))
+      → v ≡ padded 0ℤ 4 (pointFrom n (facetColumns n cells n) (masksAs n (here .place)) 0 (vertexAs n (here .place .low)))
       → answered v ≡ paddedPoint (pointed s p)
   unfolding pointed paddedPoint pointOf
   point-answered v e =
-      ap answered (e ∙ (λ i. padded 0ℤ 3 (pointFrom (job .dimension i) (at .finds z .columns i) (masks-are i) 0 (low-is i))))
+      ap answered (e ∙ (λ i. padded 0ℤ 4 (pointFrom (job .dimension i) (at .finds z .columns i) (masks-are i) 0 (low-is i))))
       ∙ ap paddedPoint (sym (unless-answered (pointOf (dimension s) (fieldOf s) (facetOf s p)) (sym (at .number) ∙ z)))

@@ -1,4 +1,4 @@
--- Point's answer has room for three axes; its first n numbers are the place's point, and so the line is the place's.
+-- Point's answer has room for four axes; its first n numbers are the place's point, and so the line is the place's.
 use Prim.Native.Nat.{ℕ, suc, zero, _≤_}
 use mathlib.Core.Path.{_≡_, refl, sym, ap, ap₂, _∙_}
 use mathlib.Core.List.{List, [], _∷_}
@@ -43,33 +43,33 @@ unfolding facetOf decodePlace
 low-length s p = simp length-map (length-countFrom 0 (dimension s))
 
 module _ (s p : List ℕ) (passes : pointRefusal s p ≡ 0) where
-  padded-is : paddedPoint (pointed s p) ≡ answered (padded 0ℤ 3 (pointOf (dimension s) (fieldOf s) (facetOf s p)))
+  padded-is : paddedPoint (pointed s p) ≡ answered (padded 0ℤ 4 (pointOf (dimension s) (fieldOf s) (facetOf s p)))
   unfolding pointed paddedPoint
   padded-is = ap paddedPoint (unless-answered (pointOf (dimension s) (fieldOf s) (facetOf s p)) passes)
 
   point-shown : {found : Pointed.Pointed} {q : StepPoint} → found ≡ Pointed.the-variants.At q → pointedAs found ≡ paddedPoint (pointed s p)
-      → dimension s ≤ 3 → take (dimension s) (q .x ∷ q .y ∷ q .z ∷ []) ≡ pointOf (dimension s) (fieldOf s) (facetOf s p)
+      → dimension s ≤ 4 → take (dimension s) (q .x ∷ q .y ∷ q .z ∷ q .w ∷ []) ≡ pointOf (dimension s) (fieldOf s) (facetOf s p)
   unfolding pointedAs pointOf
   point-shown {found} {q} e f h =
-      let whole : answered (q .x ∷ q .y ∷ q .z ∷ []) ≡ answered (padded 0ℤ 3 (pointOf (dimension s) (fieldOf s) (facetOf s p))) =
+      let whole : answered (q .x ∷ q .y ∷ q .z ∷ q .w ∷ []) ≡ answered (padded 0ℤ 4 (pointOf (dimension s) (fieldOf s) (facetOf s p))) =
       sym (ap pointedAs e) ∙ f ∙ padded-is in
-      let same : q .x ∷ q .y ∷ q .z ∷ [] ≡ padded 0ℤ 3 (pointOf (dimension s) (fieldOf s) (facetOf s p)) = cc in
+      let same : q .x ∷ q .y ∷ q .z ∷ q .w ∷ [] ≡ padded 0ℤ 4 (pointOf (dimension s) (fieldOf s) (facetOf s p)) = cc in
       ap (take (dimension s)) same
-      ∙ take-padded 0ℤ 3 (dimension s) (pointOf (dimension s) (fieldOf s) (facetOf s p)) (point-length _ _ _ _ _ ∙ low-length s p) h
+      ∙ take-padded 0ℤ 4 (dimension s) (pointOf (dimension s) (fieldOf s) (facetOf s p)) (point-length _ _ _ _ _ ∙ low-length s p) h
 
   pub point-not-refused : {found : Pointed.Pointed} {k : ℕ} → found ≡ Pointed.the-variants.Refused k → pointedAs found ≡ paddedPoint (pointed s p) → ⊥
   unfolding pointedAs
   point-not-refused {found} {k} e f =
-      let other : refused k ≡ answered (padded 0ℤ 3 (pointOf (dimension s) (fieldOf s) (facetOf s p))) = sym (ap pointedAs e) ∙ f ∙ padded-is in
+      let other : refused k ≡ answered (padded 0ℤ 4 (pointOf (dimension s) (fieldOf s) (facetOf s p))) = sym (ap pointedAs e) ∙ f ∙ padded-is in
       let z : _≡_ {A = ℕ} 0 1 = cc in
       omega arith
 
 -- the place read and the point make the line
 pub line-shown : {n : ℕ} {s p : List ℕ} → HasLine n s p → {r : HeldPlace} → PlaceRead n p r
     → {found : Pointed.Pointed} {q : StepPoint} → found ≡ Pointed.the-variants.At q → pointedAs found ≡ paddedPoint (pointed s p)
-    → placeLine (facetAs n r) (take n (q .x ∷ q .y ∷ q .z ∷ [])) ≡ lineOf s p
+    → placeLine (facetAs n r) (take n (q .x ∷ q .y ∷ q .z ∷ q .w ∷ [])) ≡ lineOf s p
 unfolding placeAs
 line-shown {n} {s} {p} a {r} at {found} {q} e f =
     ap₂ placeLine (ap (λ (x : Place). x .facet) (at .is) ∙ facet-at s p (a .job .dimension))
-    (ap (λ (m : ℕ). take m (q .x ∷ q .y ∷ q .z ∷ [])) (a .job .dimension)
+    (ap (λ (m : ℕ). take m (q .x ∷ q .y ∷ q .z ∷ q .w ∷ [])) (a .job .dimension)
     ∙ point-shown s p (a .passes) e f (opens-range (opens s (a .job .opens)) .high))

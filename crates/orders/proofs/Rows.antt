@@ -1,16 +1,19 @@
 -- Every row of the table is an order of its axes, and the constant arrays of the code have the table's entries and the masks of its vertices.
-use Prim.Native.Nat.{ℕ, _+_, _*_, _≤_, _<_}
+use Prim.Native.Nat.{ℕ, _+_, _≤_, _<_}
 use mathlib.Core.Path.{_≡_, refl}
-use mathlib.Core.Bool.{Bool, true, cond, _||_}
+use mathlib.Core.Bool.{Bool, true, _||_}
 use mathlib.Core.List.{List, [], _∷_}
 use native.Mathlib.Omega.{arith}
 use lib.ListN.{length, getD}
 use lib.Dec.{eqb, ltb, leb}
-use borrow.Author.Tests.{eqb-true, ltb-true, lt-leb, eq-eqb, ne-eqb}
+use borrow.Author.Tests.{eqb-true, ltb-true, lt-leb}
 use Rattle.curves.specs.Grid.{orders, isOrder, absent, distinct, under, masksFrom}
 use Rattle.curves.proofs.OrderTests.{order-length}
 use Rattle.paper.specs.Job.{allFrom}
-use Rattle.orders.specs.Table.{orderAt, axisAt, vertexMask, InTable, AxisIs}
+use Rattle.paper.proofs.Tests.{all-at}
+use Rattle.bits.specs.Axes.{Axes}
+use Rattle.bits.proofs.EachDimension.{each-axes}
+use Rattle.orders.specs.Table.{firstRow, digitAt, orderAt, axisAt, vertexMask, InTable, AxisIs, MasksAre}
 use Rattle.orders.proofs.Tested.{passes}
 
 -- ---- orders
@@ -39,53 +42,59 @@ axis-is n row k h l e = record { is = e; under = rw e (axis-under n row k h l) }
 
 -- ---- the arrays of the code
 
-abbrev pub orders2 : List ℕ
-orders2 = 0 ∷ 1 ∷ 1 ∷ 0 ∷ []
+abbrev pub ordersArray : List ℕ
+ordersArray =
+    0x0100 ∷ 0x1000
+    ∷ 0x0120 ∷ 0x0210 ∷ 0x1020 ∷ 0x1200 ∷ 0x2010 ∷ 0x2100
+    ∷ 0x0123 ∷ 0x0132 ∷ 0x0213 ∷ 0x0231 ∷ 0x0312 ∷ 0x0321
+    ∷ 0x1023 ∷ 0x1032 ∷ 0x1203 ∷ 0x1230 ∷ 0x1302 ∷ 0x1320
+    ∷ 0x2013 ∷ 0x2031 ∷ 0x2103 ∷ 0x2130 ∷ 0x2301 ∷ 0x2310
+    ∷ 0x3012 ∷ 0x3021 ∷ 0x3102 ∷ 0x3120 ∷ 0x3201 ∷ 0x3210 ∷ []
 
-abbrev pub orders3 : List ℕ
-orders3 = 0 ∷ 1 ∷ 2 ∷ 0 ∷ 2 ∷ 1 ∷ 1 ∷ 0 ∷ 2 ∷ 1 ∷ 2 ∷ 0 ∷ 2 ∷ 0 ∷ 1 ∷ 2 ∷ 1 ∷ 0 ∷ []
+abbrev pub masksArray : List ℕ
+masksArray =
+    0x1300 ∷ 0x2300
+    ∷ 0x1370 ∷ 0x1570 ∷ 0x2370 ∷ 0x2670 ∷ 0x4570 ∷ 0x4670
+    ∷ 0x137F ∷ 0x13BF ∷ 0x157F ∷ 0x15DF ∷ 0x19BF ∷ 0x19DF
+    ∷ 0x237F ∷ 0x23BF ∷ 0x267F ∷ 0x26EF ∷ 0x2ABF ∷ 0x2AEF
+    ∷ 0x457F ∷ 0x45DF ∷ 0x467F ∷ 0x46EF ∷ 0x4CDF ∷ 0x4CEF
+    ∷ 0x89BF ∷ 0x89DF ∷ 0x8ABF ∷ 0x8AEF ∷ 0x8CDF ∷ 0x8CEF ∷ []
 
-abbrev pub masks2 : List ℕ
-masks2 = 0 ∷ 1 ∷ 3 ∷ 0 ∷ 2 ∷ 3 ∷ []
+-- the rows of n axes end where those of the next begin
+pub rows-end : (n : ℕ) → Axes n → firstRow (n + 1) ≡ firstRow n + length (orders n)
+unfolding firstRow orders
+rows-end n h = each-axes (λ n. firstRow (n + 1) ≡ firstRow n + length (orders n)) refl refl refl n h
 
-abbrev pub masks3 : List ℕ
-masks3 =
-    0 ∷ 1 ∷ 3 ∷ 7 ∷ 0 ∷ 1 ∷ 5 ∷ 7 ∷ 0 ∷ 2 ∷ 3 ∷ 7 ∷ 0 ∷ 2 ∷ 6 ∷ 7 ∷ 0 ∷ 4 ∷ 5 ∷ 7 ∷ 0 ∷ 4 ∷ 6 ∷ 7 ∷ []
+-- a row stands within the arrays
+rowInside : ℕ → ℕ → ℕ → Bool
+rowInside n row k = ltb (firstRow n + row) 32
 
-entry : ℕ → ℕ → ℕ → ℕ
-entry n row k = cond (eqb n 2) (getD orders2 (2 * row + k) 0) (getD orders3 (3 * row + k) 0)
-
+-- an entry of the array is that of the table
 sameEntry : ℕ → ℕ → ℕ → Bool
-sameEntry n row k = leb n k || eqb (entry n row k) (axisAt n row k)
+sameEntry n row k = leb n k || eqb (digitAt (getD ordersArray (firstRow n + row) 0) (k + 1)) (axisAt n row k)
 
-mask : ℕ → ℕ → ℕ → ℕ
-mask n row k = cond (eqb n 2) (getD masks2 (3 * row + k) 0) (getD masks3 (4 * row + k) 0)
+-- the masks of vertices 0 to 4 are those of the order
+rightDigits : ℕ → ℕ → ℕ → Bool
+rightDigits n row k = allFrom (λ k. eqb (digitAt (getD masksArray (firstRow n + row) 0) k) (vertexMask (orderAt n row) k)) 0 5
 
-sameMask : ℕ → ℕ → ℕ → Bool
-sameMask n row k = eqb (mask n row k) (vertexMask (orderAt n row) k)
+module _ (n row : ℕ) (h : InTable n row) {f : ℕ} (is-first : f ≡ firstRow n) where
+  pub row-inside : f + row < 32
+  unfolding rowInside firstRow orders allFrom
+  row-inside = rw is-first (ltb-true (firstRow n + row) 32 (passes rowInside refl refl refl n row 0 h (omega arith)))
 
-module _ (n row k : ℕ) (h : InTable n row) where
-  entry-is : k < n → entry n row k ≡ axisAt n row k
-  unfolding sameEntry entry axisAt orderAt orders allFrom
-  entry-is l =
-      eqb-true (entry n row k) (axisAt n row k) (rw (lt-leb n k l) at (passes sameEntry refl refl refl n row k h (omega arith)))
+  pub entry-is : (k : ℕ) → k < n → digitAt (getD ordersArray (f + row) 0) (k + 1) ≡ axisAt n row k
+  unfolding sameEntry firstRow digitAt axisAt orderAt orders allFrom
+  entry-is k l =
+      rw is-first
+      (eqb-true (digitAt (getD ordersArray (firstRow n + row) 0) (k + 1)) (axisAt n row k)
+      (rw (lt-leb n k l) at (passes sameEntry refl refl refl n row k h (omega arith))))
 
-  pub entry-two : k < n → n ≡ 2 → getD orders2 (2 * row + k) 0 ≡ axisAt n row k
-  unfolding entry
-  entry-two l e = rw (eq-eqb n 2 e) at (entry-is l)
+  mask-is : (k : ℕ) → k ≤ 4 → digitAt (getD masksArray (firstRow n + row) 0) k ≡ vertexMask (orderAt n row) k
+  unfolding rightDigits firstRow digitAt vertexMask masksFrom orderAt orders allFrom
+  mask-is k l =
+      eqb-true (digitAt (getD masksArray (firstRow n + row) 0) k) (vertexMask (orderAt n row) k)
+      (all-at (λ k. eqb (digitAt (getD masksArray (firstRow n + row) 0) k) (vertexMask (orderAt n row) k)) 0 5 k
+      (passes rightDigits refl refl refl n row 0 h (omega arith)) (omega arith) (omega arith))
 
-  pub entry-three : k < n → (n ≡ 2 → ⊥) → getD orders3 (3 * row + k) 0 ≡ axisAt n row k
-  unfolding entry
-  entry-three l d = rw (ne-eqb n 2 d) at (entry-is l)
-
-  mask-is : k ≤ n → mask n row k ≡ vertexMask (orderAt n row) k
-  unfolding sameMask mask vertexMask masksFrom orderAt orders allFrom
-  mask-is l = eqb-true (mask n row k) (vertexMask (orderAt n row) k) (passes sameMask refl refl refl n row k h l)
-
-  pub mask-two : k ≤ n → n ≡ 2 → getD masks2 (3 * row + k) 0 ≡ vertexMask (orderAt n row) k
-  unfolding mask
-  mask-two l e = rw (eq-eqb n 2 e) at (mask-is l)
-
-  pub mask-three : k ≤ n → (n ≡ 2 → ⊥) → getD masks3 (4 * row + k) 0 ≡ vertexMask (orderAt n row) k
-  unfolding mask
-  mask-three l d = rw (ne-eqb n 2 d) at (mask-is l)
+  pub digits-are : MasksAre n row (getD masksArray (f + row) 0)
+  digits-are = record { at = λ k l. rw is-first (mask-is k l) }

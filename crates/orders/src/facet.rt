@@ -24,7 +24,8 @@ pub fn facet_mask(n: usize, row: usize, out: usize, i: usize) -> u64
     if n <= i {
         return 0;
     }
-    table::vertex_mask(n, row, skip(out, i)) - table::vertex_mask(n, row, skip(out, 0))
+    let masks = table::vertex_masks(n, row);
+    table::digit(masks, skip(out, i)) - table::digit(masks, skip(out, 0))
 }
 
 // The side of the facet without vertex `out`. Flat: the vertex left out is the lowest (1) or the highest (0). Bent: the lower of

@@ -1,64 +1,117 @@
-// The orders of two and of three axes as a constant table, and the masks of the vertices of a simplex with a row's order.
+// The orders of two, of three and of four axes as one constant table, and the masks of the vertices of a simplex with a row's order.
+// Each use of a constant array copies it, so the arrays are short: a row is one number of four hexadecimal digits.
 
 ghost use mathlib.Core.Path.{_≡_};
-ghost use Prim.Native.Nat.{_<_};
+ghost use Prim.Native.Nat.{_≤_, _<_};
 ghost use lib.ListN.{length};
 ghost use Rattle.curves.specs.Grid.{orders};
 ghost use Rattle.bits.specs.Axes.{Axes};
-ghost use Rattle.orders.specs.Table.{InTable, AxisIs, orderAt, vertexMask};
+ghost use Rattle.orders.specs.Table.{firstRow, digitAt, InTable, AxisIs, MasksAre, orderAt, vertexMask};
 
-const ORDERS2: [u8; 4] = [0, 1, 1, 0];
+// The row at which the orders of n axes begin, which is where those of n - 1 end.
+const FIRST: [u8; 6] = [0, 0, 0, 2, 8, 32];
 
-const ORDERS3: [u8; 18] = [0, 1, 2, 0, 2, 1, 1, 0, 2, 1, 2, 0, 2, 0, 1, 2, 1, 0];
+// Each order of the axes, the first on the left; where it has no further axis, 0.
+const ORDERS: [u16; 32] = [
+    0x0100,
+    0x1000,
+    0x0120,
+    0x0210,
+    0x1020,
+    0x1200,
+    0x2010,
+    0x2100,
+    0x0123,
+    0x0132,
+    0x0213,
+    0x0231,
+    0x0312,
+    0x0321,
+    0x1023,
+    0x1032,
+    0x1203,
+    0x1230,
+    0x1302,
+    0x1320,
+    0x2013,
+    0x2031,
+    0x2103,
+    0x2130,
+    0x2301,
+    0x2310,
+    0x3012,
+    0x3021,
+    0x3102,
+    0x3120,
+    0x3201,
+    0x3210,
+];
 
-const MASKS2: [u8; 6] = [0, 1, 3, 0, 2, 3];
-
-const MASKS3: [u8; 24] = [
-    0,
-    1,
-    3,
-    7,
-    0,
-    1,
-    5,
-    7,
-    0,
-    2,
-    3,
-    7,
-    0,
-    2,
-    6,
-    7,
-    0,
-    4,
-    5,
-    7,
-    0,
-    4,
-    6,
-    7,
+// The masks of the vertices behind the corner of a simplex with this order, vertex 1 on the left; where it has no further vertex, 0.
+const MASKS: [u16; 32] = [
+    0x1300,
+    0x2300,
+    0x1370,
+    0x1570,
+    0x2370,
+    0x2670,
+    0x4570,
+    0x4670,
+    0x137F,
+    0x13BF,
+    0x157F,
+    0x15DF,
+    0x19BF,
+    0x19DF,
+    0x237F,
+    0x23BF,
+    0x267F,
+    0x26EF,
+    0x2ABF,
+    0x2AEF,
+    0x457F,
+    0x45DF,
+    0x467F,
+    0x46EF,
+    0x4CDF,
+    0x4CEF,
+    0x89BF,
+    0x89DF,
+    0x8ABF,
+    0x8AEF,
+    0x8CDF,
+    0x8CEF,
 ];
 
 // A byte of a table as a number.
-fn wide(x: u8) -> u64
+fn wide(x: u8) -> usize
     ensures { λ r. ⌜ r ≡ x ⌝ }
 {
-    x as u64
+    x as usize
 }
 
-// The rows of the table for n axes; for four it has none.
+// The entry of the table at which the orders of n axes begin.
+fn first(n: usize) -> usize
+    requires { ⌜ n < 6 ⌝ }
+    ensures { λ r. ⌜ r ≡ firstRow n ⌝ }
+{
+    wide(FIRST[n])
+}
+
+// Digit k of four hexadecimal digits, from the left; 0 for k = 0.
+pub fn digit(x: u16, k: usize) -> u64
+    requires { ⌜ k ≤ 4 ⌝ }
+    ensures { λ r. ⌜ r ≡ digitAt x k ⌝ }
+{
+    ((x as u64) >> (16 - 4 * k)) % 16
+}
+
+// The rows of the table for n axes.
 pub fn rows(n: usize) -> usize
     requires { ⌜ Axes n ⌝ }
     ensures { λ r. ⌜ r ≡ length (orders n) ⌝ }
 {
-    if n == 2 {
-        return 2;
-    }
-    if n == 3 {
-        return 6;
-    }
-    0
+    first(n + 1) - first(n)
 }
 
 // Entry k of a row of the table for n axes.
@@ -66,10 +119,15 @@ pub fn axis(n: usize, row: usize, k: usize) -> u64
     requires { ⌜ (InTable n row) × (k < n) ⌝ }
     ensures { λ r. ⌜ AxisIs n row k r ⌝ }
 {
-    if n == 2 {
-        return wide(ORDERS2[2 * row + k]);
-    }
-    wide(ORDERS3[3 * row + k])
+    digit(ORDERS[first(n) + row], k + 1)
+}
+
+// The masks of a row's vertices as digits, for a caller that wants more than one.
+pub fn vertex_masks(n: usize, row: usize) -> u16
+    requires { ⌜ InTable n row ⌝ }
+    ensures { λ r. ⌜ MasksAre n row r ⌝ }
+{
+    MASKS[first(n) + row]
 }
 
 // The mask of vertex k, its difference from the corner; 0 behind the last.
@@ -80,8 +138,5 @@ pub fn vertex_mask(n: usize, row: usize, k: usize) -> u64
     if n < k {
         return 0;
     }
-    if n == 2 {
-        return wide(MASKS2[3 * row + k]);
-    }
-    wide(MASKS3[4 * row + k])
+    digit(vertex_masks(n, row), k)
 }

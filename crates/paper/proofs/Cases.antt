@@ -1,6 +1,6 @@
 -- The marked cases A to J of document 01 and its wrong turn of rounding, as rows of a table under one theorem: each row holds
 -- by computation from the definitions.
-use Prim.Native.Nat.{ℕ, suc}
+use Prim.Native.Nat.{ℕ, zero, suc}
 use Prim.Native.String.{String}
 use mathlib.Core.Path.{_≡_, refl}
 use mathlib.Core.Bool.{Bool, true, false}
@@ -8,6 +8,7 @@ use mathlib.Core.List.{List, [], _∷_, _++_, map}
 use lib.IntN.{ℤ, pos, negsuc}
 use lib.ListN.{length, take}
 use lib.Count as Count
+use lib.Ieee as Ieee
 use Rattle.exact.specs.Int as Int
 use Rattle.exact.specs.Det as Det
 use Rattle.exact.specs.Sign as Sign
@@ -24,10 +25,14 @@ use Rattle.paper.specs.Limits as Limits
 use Rattle.paper.specs.Job as Job
 use Rattle.paper.specs.Job.{openRefusal, entryOffset, dimension, withStart}
 use Rattle.paper.specs.Values as Values
+use Rattle.paper.specs.Values.{fieldOf}
 use Rattle.paper.specs.Operations as Operations
 use Rattle.paper.specs.Operations.{Answer, refused, answered, judged, pointed, traced}
 use Rattle.paper.specs.Listing as Listing
 use Rattle.paper.specs.Listing.{listing}
+use Rattle.paper.specs.Answers as Answers
+use Rattle.paper.specs.Pen as Pen
+use Rattle.paper.specs.Pen.{Move, penned}
 use Rattle.paper.proofs.TextCodes.{lines}
 
 -- ---- the jobs
@@ -92,6 +97,41 @@ minusThreeTenths =
 
 -- ---- the rows
 
+-- the offsets of a job's bodies; what this unfolds is all that the rows compute with
+unfoldable pub bodyOffsets : List ℕ → List ℕ
+unfolding Int._⊕_ Int.neg Int._⊖_ Int._⊗_ Int.power
+    Det.laplace Det.ifNone Det.det Det.rowsFrom Det.determinant
+    Sign.sign Sign.orElse Sign.lexSign Sign.sameSign
+    Crossed.countFrom Crossed.unitColumn Crossed.coefficient Crossed.coefficients Crossed.allHaveSign Crossed.crossed
+    Crossed.remove Crossed.otherCrossed Crossed.exit
+    Grid.up Grid.down Grid.plus Grid.axesFrom Grid.axes Grid.holds Grid.vertices Grid.facetVertices Grid.chain
+    Grid.facetOk Grid.placeOk Grid.sameVertex Grid.sameMasks Grid.sameFacet Grid.turn Grid.steps Grid.lastMask Grid.flat
+    Grid.missed Grid.oriented Grid.added Grid.bend Grid.downs Grid.flatSide Grid.bentSide Grid.incidence Grid.masksFrom
+    Grid.sideOf Grid.placeAt Grid.placeOf
+    Step.every Step.column Step.columns Step.crossedFacet Step.onward Step.stepThrough Step.step
+    Walk.trace
+    Bytes.byte Bytes.word Bytes.doubleWord Bytes.signed Bytes.signedWord Bytes.signedDoubleWord Bytes.wordOf
+    Bytes.wordBytes
+    Limits.dimensionOk Limits.coordinateLimit Limits.termLimit Limits.coefficientLimit Limits.degreeLimit
+    Limits.readableLimit Limits.stepsPerUnit
+    Job.dimension Job.entryOffset Job.entryLength Job.contentsEnd Job.polynomialLengthOk Job.lengthOk Job.entriesOk
+    Job.contentsOk Job.body Job.lowEnd Job.highEnd Job.axisOk Job.allFrom Job.boxOk Job.termCount Job.coefficientOf
+    Job.exponentOf Job.exponentsZero Job.degree Job.termOk Job.exponentWeight Job.rises Job.polynomialOk Job.decodePlace
+    Job.vertexBytes Job.encodePlace Job.withStart Job.refuseIf Job.openRefusal
+    Values.monomial Values.termValue Values.sumFrom Values.rawSum Values.readableSum Values.valueOf Values.sums
+    Values.insideFrom Values.fieldOf Values.roundSteps Values.hasAxis Values.weightSum Values.overSize
+    Values.coordinateSteps Values.pointFrom Values.pointOf
+    Operations.unless Operations.firstRefusal Operations.facetRefusal Operations.crossedIn Operations.placeBad
+    Operations.facetOf Operations.judgeRefusal Operations.judged Operations.pointRefusal Operations.pointed
+    Operations.stepIn Operations.startOf Operations.traceRefusal Operations.onSameFacet Operations.traced
+    Listing.decimalFrom Listing.decimal Listing.signedDecimal Listing.blankNumbers Listing.numberLine Listing.verdictWord
+    Listing.firstLine Listing.placeNumbers Listing.placeLine Listing.placeLines Listing.listingSpace Listing.longestJob
+    Listing.listingLines Listing.listing
+    Pen.millimetre Pen.placeBytes Pen.placeCount Pen.closes Pen.penRefusal Pen.pointMillimetres Pen.penMove Pen.penned
+    Answers.padded Ieee.odd
+    lines Count.ones
+bodyOffsets s = map (entryOffset s) (countFrom 0 (suc (dimension s)))
+
 pub data Row : Type 0 where
   -- the job has so many bytes, opens, and its bodies begin at these offsets
   bodies : List ℕ → ℕ → List ℕ → Row
@@ -99,28 +139,46 @@ pub data Row : Type 0 where
   refuses : List ℕ → ℕ → Row
   -- Judge's answer for a place in bytes
   judges : List ℕ → List ℕ → Answer Bool → Row
-  -- Point's answer for a place in bytes
+  -- Point's answer for a place in bytes, or its refusal
   points : List ℕ → List ℕ → List ℤ → Row
+  refusesPoint : List ℕ → List ℕ → ℕ → Row
   -- Trace's verdict and places, with space for so many
   traces : List ℕ → ℕ → Verdict Stop → List Place → Row
   -- the lines that the program prints for a job
   prints : List ℕ → List String → Row
+  -- the polynomials' values at a vertex
+  values : List ℕ → Vertex → List ℤ → Row
+  -- Pen's answer for places in bytes, the mark and a number of a place
+  pens : List ℕ → List ℕ → Bool → ℕ → Move → Row
 
 -- what a row says
 abbrev pub Holds : Row → Type 0
-Holds (bodies s l os) =
-    (length s ≡ l) × (openRefusal s ≡ 0) × (map (entryOffset s) (countFrom 0 (suc (dimension s))) ≡ os)
+Holds (bodies s l os) = (length s ≡ l) × (openRefusal s ≡ 0) × (bodyOffsets s ≡ os)
 Holds (refuses s k) = openRefusal s ≡ k
 Holds (judges s p a) = judged s p ≡ a
 Holds (points s p v) = pointed s p ≡ answered v
+Holds (refusesPoint s p k) = pointed s p ≡ refused k
 Holds (traces s k v ps) = traced s k ≡ answered record { verdict = v; places = ps }
 Holds (prints s ls) = listing s ≡ lines ls
+Holds (values s v zs) = fieldOf s .value v ≡ zs
+Holds (pens s ps mark k m) = penned s ps mark k ≡ answered m
 
 abbrev pub AllHold : List Row → Type 0
 AllHold [] = Unit {0}
 AllHold (r ∷ rs) = Holds r × AllHold rs
 
-abbrev place : Vertex → List ℕ → ℕ → Place
+-- what row k of a table says
+abbrev pub HoldsAt : ℕ → List Row → Type 0
+HoldsAt k [] = Unit {0}
+HoldsAt zero (r ∷ rs) = Holds r
+HoldsAt (suc k) (r ∷ rs) = HoldsAt k rs
+
+pub row : (k : ℕ) (rs : List Row) → AllHold rs → HoldsAt k rs
+row k [] h = tt
+row zero (r ∷ rs) h = h .0
+row (suc k) (r ∷ rs) h = row k rs (h .1)
+
+abbrev pub place : Vertex → List ℕ → ℕ → Place
 place v ms s = record { facet = record { low = v; masks = ms }; side = s }
 
 -- the places of A and of C, in the order in which Trace lists them
@@ -199,46 +257,17 @@ markedCases =
 
 -- the same, built row by row
 infixr 5 _also_
-data Rows : List Row → Type 0 where
+pub data Rows : List Row → Type 0 where
   end : Rows []
   _also_ : {r : Row} {rs : List Row} → Holds r → Rows rs → Rows (r ∷ rs)
 
-all-hold : {rs : List Row} → Rows rs → AllHold rs
+pub all-hold : {rs : List Row} → Rows rs → AllHold rs
 all-hold end = tt
 all-hold (h also hs) = (h, all-hold hs)
 
 -- every marked case holds, by computation
 pub marked-cases-hold : AllHold markedCases
-unfolding Int._⊕_ Int.neg Int._⊖_ Int._⊗_ Int.power
-    Det.laplace Det.ifNone Det.det Det.rowsFrom Det.determinant
-    Sign.sign Sign.orElse Sign.lexSign Sign.sameSign
-    Crossed.countFrom Crossed.unitColumn Crossed.coefficient Crossed.coefficients Crossed.allHaveSign Crossed.crossed
-    Crossed.remove Crossed.otherCrossed Crossed.exit
-    Grid.up Grid.down Grid.plus Grid.axesFrom Grid.axes Grid.holds Grid.vertices Grid.facetVertices Grid.chain
-    Grid.facetOk Grid.placeOk Grid.sameVertex Grid.sameMasks Grid.sameFacet Grid.turn Grid.steps Grid.lastMask Grid.flat
-    Grid.missed Grid.oriented Grid.added Grid.bend Grid.downs Grid.flatSide Grid.bentSide Grid.incidence Grid.masksFrom
-    Grid.sideOf Grid.placeAt Grid.placeOf
-    Step.every Step.column Step.columns Step.crossedFacet Step.onward Step.stepThrough Step.step
-    Walk.trace
-    Bytes.byte Bytes.word Bytes.doubleWord Bytes.signed Bytes.signedWord Bytes.signedDoubleWord Bytes.wordOf
-    Bytes.wordBytes
-    Limits.dimensionOk Limits.coordinateLimit Limits.termLimit Limits.coefficientLimit Limits.degreeLimit
-    Limits.readableLimit Limits.stepsPerUnit
-    Job.dimension Job.entryOffset Job.entryLength Job.contentsEnd Job.polynomialLengthOk Job.lengthOk Job.entriesOk
-    Job.contentsOk Job.body Job.lowEnd Job.highEnd Job.axisOk Job.allFrom Job.boxOk Job.termCount Job.coefficientOf
-    Job.exponentOf Job.exponentsZero Job.degree Job.termOk Job.exponentWeight Job.rises Job.polynomialOk Job.decodePlace
-    Job.vertexBytes Job.encodePlace Job.withStart Job.refuseIf Job.openRefusal
-    Values.monomial Values.termValue Values.sumFrom Values.rawSum Values.readableSum Values.valueOf Values.sums
-    Values.insideFrom Values.fieldOf Values.roundSteps Values.hasAxis Values.weightSum Values.overSize
-    Values.coordinateSteps Values.pointFrom Values.pointOf
-    Operations.unless Operations.firstRefusal Operations.facetRefusal Operations.crossedIn Operations.placeBad
-    Operations.facetOf Operations.judgeRefusal Operations.judged Operations.pointRefusal Operations.pointed
-    Operations.stepIn Operations.startOf Operations.traceRefusal Operations.onSameFacet Operations.traced
-    Listing.decimalFrom Listing.decimal Listing.signedDecimal Listing.blankNumbers Listing.numberLine Listing.verdictWord
-    Listing.firstLine Listing.placeNumbers Listing.placeLine Listing.placeLines Listing.listingSpace Listing.longestJob
-    Listing.listingLines Listing.listing
-    lines
-    Count.ones
+unfolding bodyOffsets
     markedCases placesA placesC linesA oneTermJob unitBox unitStart caseA caseC caseF caseG caseH caseI caseJ
     minusThreeTenths
 marked-cases-hold =

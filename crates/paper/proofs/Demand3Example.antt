@@ -1,5 +1,5 @@
--- The third demand at two of the marked cases, so that nothing it asks for is out of reach: the curve of case A closes and
--- has six facets, and the curve of case C does not close.
+-- The third demand at marked cases of each dimension, so that nothing it asks for is out of reach: the curve of case A closes
+-- and has six facets, with n = 4 it closes and has 14, and the curve of case C does not close, with n = 3 and with n = 4.
 use Prim.Native.Nat.{ℕ, _<_}
 use native.Mathlib.Omega.{arith}
 use mathlib.Core.Path.{_≡_, refl, ap, subst, _∙_}
@@ -18,7 +18,8 @@ use Rattle.paper.specs.Job.{dimension}
 use Rattle.paper.specs.Values.{fieldOf}
 use Rattle.paper.specs.Operations.{answered, stepIn, startOf, traceRefusal, onSameFacet, traced}
 use Rattle.paper.specs.Demand3.{CurveHas, CurveCloses, Demand3}
-use Rattle.paper.proofs.Cases.{caseA, caseC, placesA, markedCases, marked-cases-hold}
+use Rattle.paper.proofs.Cases.{caseA, caseC, placesA, markedCases, marked-cases-hold, row}
+use Rattle.paper.proofs.Cases4.{caseA4, caseC4, placesLoop, markedCases4, marked-cases-4-hold}
 use Rattle.paper.proofs.Refusals.{Answered, answered-inv}
 use Rattle.paper.proofs.Opens.{opens-range}
 use Rattle.paper.proofs.StartTraceable.{trace-opens, start-traceable}
@@ -63,20 +64,40 @@ module _ (s : List ℕ) (space : ℕ) (t : Trace Place Stop) (e : traced s space
         count = length-map (traceOf (dimension s) (fieldOf s) (startOf s) space .places) (λ (p : Place). p .facet);
       }
 
--- ---- cases A and C
+-- ---- cases A and C, each with its row of the table that has its trace; then both with n = 4
 
 pub demand3-caseA : Demand3 caseA 6 6
 unfolding markedCases
-demand3-caseA = demand3 caseA (inverted caseA 4096 _ (marked-cases-hold .1 .0) .none) 6 6
+demand3-caseA = demand3 caseA (inverted caseA 4096 _ (row 1 markedCases marked-cases-hold) .none) 6 6
 
 pub caseA-closes : CurveCloses caseA
 unfolding markedCases
-caseA-closes = loop-closes-curve caseA 4096 _ (marked-cases-hold .1 .0) refl
+caseA-closes = loop-closes-curve caseA 4096 _ (row 1 markedCases marked-cases-hold) refl
 
 pub caseA-counted : CurveHas caseA 6
 unfolding markedCases placesA
-caseA-counted = loop-counts-curve caseA 4096 _ (marked-cases-hold .1 .0) refl
+caseA-counted = loop-counts-curve caseA 4096 _ (row 1 markedCases marked-cases-hold) refl
 
 pub caseC-open : ¬ CurveCloses caseC
 unfolding markedCases
-caseC-open = stopped-opens-curve caseC 4096 _ (marked-cases-hold .1 .1 .1 .1 .1 .1 .1 .1 .1 .1 .1 .0) edge refl
+caseC-open = stopped-opens-curve caseC 4096 _ (row 11 markedCases marked-cases-hold) edge refl
+
+pub demand3-caseA4 : Demand3 caseA4 14 14
+unfolding markedCases4
+demand3-caseA4 = demand3 caseA4 (inverted caseA4 14 _ (row 11 markedCases4 marked-cases-4-hold) .none) 14 14
+
+pub caseA4-closes : CurveCloses caseA4
+unfolding markedCases4
+caseA4-closes = loop-closes-curve caseA4 14 _ (row 11 markedCases4 marked-cases-4-hold) refl
+
+pub caseA4-counted : CurveHas caseA4 14
+unfolding markedCases4 placesLoop
+caseA4-counted = loop-counts-curve caseA4 14 _ (row 11 markedCases4 marked-cases-4-hold) refl
+
+pub demand3-caseC4 : Demand3 caseC4 5 5
+unfolding markedCases4
+demand3-caseC4 = demand3 caseC4 (inverted caseC4 16 _ (row 1 markedCases4 marked-cases-4-hold) .none) 5 5
+
+pub caseC4-open : ¬ CurveCloses caseC4
+unfolding markedCases4
+caseC4-open = stopped-opens-curve caseC4 16 _ (row 1 markedCases4 marked-cases-4-hold) edge refl

@@ -1,10 +1,12 @@
 -- Theorems about the definitions of document 01, a file for each idea.
 pub mod TextCodes
 pub mod Cases
+pub mod Cases4
 pub mod Tests
 pub mod RangeSteps
 pub mod Refusals
 pub mod Opens
+pub mod TermLimit
 pub mod Bodies
 pub mod Terms
 pub mod ShortPlaces

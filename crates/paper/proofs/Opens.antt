@@ -48,6 +48,6 @@ opens s h =
       start = not-false _ (r8 .test);
     }
 
--- the dimension of an opened job is at least 2 and at most 3
+-- the dimension of an opened job is at least 2 and at most 4
 pub opens-range : {s : List ℕ} → Opens s → DimensionRange (dimension s)
 opens-range {s} o = dimension-range (dimension s) (o .dimensions)

@@ -1,11 +1,10 @@
--- Boolean tests taken apart: `||`, a test that holds for each number of a range, and the two dimensions.
+-- Boolean tests taken apart: `||`, a test that holds for each number of a range, and the range of the dimensions.
 use mathlib.Core.Path.{_≡_, refl, subst}
-use mathlib.Core.Logic.{_⊎_, inl, inr}
 use mathlib.Core.Bool.{Bool, true, false, _||_, true≢false}
 use Prim.Native.Nat.{ℕ, suc, zero, _+_, _≤_, _<_}
 use native.Mathlib.Omega.{arith}
-use lib.Dec.{eqb}
-use borrow.Author.Tests.{eqb-true, eqb-false}
+use lib.Dec.{eqb, leb}
+use borrow.Author.Tests.{eqb-true, eqb-false, leb-true}
 use Rattle.exact.proofs.AndTests.{and-left, and-right, and-true}
 use Rattle.paper.specs.Limits.{dimensionOk}
 use Rattle.paper.specs.Job.{allFrom}
@@ -19,10 +18,6 @@ or-false-left false b h = refl
 pub or-false-right : (a b : Bool) → (a || b) ≡ false → b ≡ false
 or-false-right true b h = absurd (true≢false h)
 or-false-right false b h = h
-
-pub or-cases : (a b : Bool) → (a || b) ≡ true → (a ≡ true) ⊎ (b ≡ true)
-or-cases true b h = inl refl
-or-cases false b h = inr h
 
 -- ---- every number of a range
 
@@ -57,12 +52,9 @@ all-fails t k m h = rw h
 -- the range of the dimensions
 pub record DimensionRange (n : ℕ) : Type 0 where
   pub low : 2 ≤ n
-  pub high : n ≤ 3
+  pub high : n ≤ 4
 
 pub dimension-range : (n : ℕ) → dimensionOk n ≡ true → DimensionRange n
 unfolding dimensionOk
-dimension-range n h = go (or-cases (eqb n 2) (eqb n 3) h)
-  where
-    go : (eqb n 2 ≡ true) ⊎ (eqb n 3 ≡ true) → DimensionRange n
-    go (inl e) = let k : n ≡ 2 = eqb-true n 2 e in record { low = omega arith; high = omega arith }
-    go (inr e) = let k : n ≡ 3 = eqb-true n 3 e in record { low = omega arith; high = omega arith }
+dimension-range n h =
+    record { low = leb-true 2 n (and-left (leb 2 n) (leb n 4) h); high = leb-true n 4 (and-right (leb 2 n) (leb n 4) h) }

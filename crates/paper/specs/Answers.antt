@@ -1,5 +1,5 @@
--- Each answer of the code that is an enum or a struct, as the paper's numbers and values. The structs have room for three
--- axes: in dimension 2 the coordinate, the mask and the count that do not exist are 0.
+-- Each answer of the code that is an enum or a struct, as the paper's numbers and values. The structs have room for four
+-- axes: the coordinates, masks and counts that a lower dimension does not have are 0.
 use Prim.Native.Nat.{ℕ, zero, suc}
 use mathlib.Core.Bool.{Bool, true, false}
 use mathlib.Core.List.{List, [], _∷_}
@@ -23,7 +23,7 @@ use Rattle.paper.specs.Operations.{Answer, refused, answered}
 
 unfoldable pub openedAs : Opened.Opened → Answer (List ℕ)
 openedAs (Opened.the-variants.Refused k) = refused k
-openedAs (Opened.the-variants.Job n a b) = answered (n ∷ a ∷ b ∷ [])
+openedAs (Opened.the-variants.Job n a b c) = answered (n ∷ a ∷ b ∷ c ∷ [])
 
 -- ---- Judge
 
@@ -42,23 +42,23 @@ padded d (suc k) (x ∷ l) = x ∷ padded d k l
 
 unfoldable pub paddedPoint : Answer (List ℤ) → Answer (List ℤ)
 paddedPoint (refused k) = refused k
-paddedPoint (answered v) = answered (padded 0ℤ 3 v)
+paddedPoint (answered v) = answered (padded 0ℤ 4 v)
 
 unfoldable pub pointedAs : Pointed.Pointed → Answer (List ℤ)
 pointedAs (Pointed.the-variants.Refused k) = refused k
-pointedAs (Pointed.the-variants.At p) = answered (p .x ∷ p .y ∷ p .z ∷ [])
+pointedAs (Pointed.the-variants.At p) = answered (p .x ∷ p .y ∷ p .z ∷ p .w ∷ [])
 
 -- ---- Step
 
 unfoldable pub placedAs : Placed.Placed → Place
 placedAs p = record {
-  facet = record { low = p .x ∷ p .y ∷ p .z ∷ []; masks = p .mask1 ∷ p .mask2 ∷ [] };
+  facet = record { low = p .x ∷ p .y ∷ p .z ∷ p .w ∷ []; masks = p .mask1 ∷ p .mask2 ∷ p .mask3 ∷ [] };
   side = p .side;
 }
 
 unfoldable pub paddedPlace : Place → Place
 paddedPlace p = record {
-  facet = record { low = padded 0ℤ 3 (p .facet .low); masks = padded 0 2 (p .facet .masks) };
+  facet = record { low = padded 0ℤ 4 (p .facet .low); masks = padded 0 3 (p .facet .masks) };
   side = p .side;
 }
 

@@ -2,10 +2,11 @@
 -- lists of bytes to an answer. A refusal is a number above 0, and 0 is none; the tests stand in the order written.
 use Prim.Native.Nat.{ℕ, suc, zero, _+_, _*_, _/_}
 use mathlib.Core.Bool.{Bool, not, cond, _&&_}
-use mathlib.Core.List.{List, [], _∷_, _++_}
+use mathlib.Core.List.{List, [], _∷_, _++_, map}
 use lib.IntN.{ℤ}
 use lib.ListN.{length, drop}
 use lib.Dec.{ltb, eqb}
+use Rattle.exact.specs.Crossed.{countFrom}
 use Rattle.curves.specs.Grid.{Facet, Place, facetVertices, placeOk, sameFacet}
 use Rattle.curves.specs.Walk.{Next, Verdict, Trace, trace}
 use Rattle.curves.specs.Step.{Stop, every, crossedFacet, step}
@@ -33,9 +34,9 @@ firstRefusal (suc k) l = suc k
 unfoldable pub polynomialTerms : List ℕ → ℕ → ℕ
 polynomialTerms s k = cond (ltb k (dimension s)) (termCount (body s k)) 0
 
--- n and each polynomial's count of terms
+-- n and each polynomial's count of terms; no job has more than three
 unfoldable pub openValues : List ℕ → List ℕ
-openValues s = dimension s ∷ polynomialTerms s 1 ∷ polynomialTerms s 2 ∷ []
+openValues s = dimension s ∷ map (polynomialTerms s) (countFrom 1 3)
 
 unfoldable pub opened : List ℕ → Answer (List ℕ)
 opened s = unless (openRefusal s) (openValues s)

@@ -45,7 +45,7 @@ penRefusal s ps mark k =
     (cond (closes s ps mark k) 0
     (refuseIf (not (ltb k (placeCount s ps))) 12 (pointRefusal s (placeBytes s ps k)))))
 
--- the point in millimetres; the third coordinate is 0 for n = 2
+-- the point in millimetres, on axes 1 to 3; the third coordinate is 0 for n = 2
 unfoldable pub pointMillimetres : List ℕ → List ℕ → List Float
 pointMillimetres s p = map millimetre (padded 0ℤ 3 (pointOf (dimension s) (fieldOf s) (facetOf s p)))
 

@@ -32,7 +32,7 @@ sumFrom b v i (suc m) = termValue b v i ⊕ sumFrom b v (i + 1) m
 unfoldable pub rawSum : List ℕ → Vertex → ℤ
 rawSum b v = sumFrom b v 0 (termCount b)
 
--- a sum is readable from − 2 ^ 28 to 2 ^ 28
+-- a sum is readable from minus the limit to the limit
 unfoldable pub readableSum : ℕ → ℤ → Bool
 readableSum n z = leb (natAbs z) (readableLimit n)
 

@@ -1,10 +1,15 @@
 // The public answers of the operations, as document 01 words them. What each case means, its number and its values, is
 // said in specs/Answers.antt; what an operation answers is defined in specs/Operations.antt.
 
-// Open: the refusal's number, or the dimension and each polynomial's count of terms (the second is 0 in dimension 2).
+// Open: the refusal's number, or the dimension and each polynomial's count of terms (0 for one that the dimension does not have).
 pub enum Opened {
     Refused(u64),
-    Job { n: u64, terms1: u64, terms2: u64 },
+    Job {
+        n: u64,
+        terms1: u64,
+        terms2: u64,
+        terms3: u64,
+    },
 }
 
 // Judge.
@@ -14,11 +19,12 @@ pub enum Judged {
     NotCrossed,
 }
 
-// A point in steps of 1/1024, axis by axis; z is 0 in dimension 2.
+// A point in steps of 1/1024, axis by axis; z is 0 in dimension 2, w below dimension 4.
 pub struct StepPoint {
     pub x: i64,
     pub y: i64,
     pub z: i64,
+    pub w: i64,
 }
 
 // Point.
@@ -27,13 +33,15 @@ pub enum Pointed {
     At(StepPoint),
 }
 
-// A place: the lowest vertex, the masks and the side. In dimension 2 z and mask2 are 0.
+// A place: the lowest vertex, the masks and the side. In dimension 2 z and mask2 are 0, below dimension 4 w and mask3.
 pub struct Placed {
     pub x: i64,
     pub y: i64,
     pub z: i64,
+    pub w: i64,
     pub mask1: u64,
     pub mask2: u64,
+    pub mask3: u64,
     pub side: u64,
 }
 
@@ -59,7 +67,7 @@ pub enum Traced {
     Listed(Verdict, u64),
 }
 
-// A point in millimetres, axis by axis; z is 0 in dimension 2.
+// A point in millimetres, on axes 1 to 3; z is 0 in dimension 2.
 pub struct Millimetres {
     pub x: f64,
     pub y: f64,

@@ -1,5 +1,5 @@
 -- What each answer of Point makes of Pen's move at a place: a refusal stays, and a point is lifted or drawn to, in millimetres.
-use Prim.Native.Nat.{ℕ, suc, zero}
+use Prim.Native.Nat.{ℕ, suc, zero, _≤_}
 use native.Mathlib.Omega.{arith}
 use mathlib.Core.Path.{_≡_, refl, sym, ap, subst, _∙_}
 use mathlib.Core.Bool.{cond}
@@ -7,7 +7,7 @@ use mathlib.Core.List.{List, [], _∷_, map}
 use lib.Dec.{lit≤}
 use lib.Ieee.{Float}
 use lib.IntN.{ℤ}
-use lib.ListN.{getD}
+use lib.ListN.{getD, take}
 use borrow.Author.Tests.{eq-eqb, ne-eqb}
 use Rattle.exact.specs.Int.{0ℤ}
 use Rattle.exact.specs.Size.{Size}
@@ -27,7 +27,7 @@ use Rattle.pen.proofs.PointSize.{stepLimit, point-size}
 
 record PointIs (k : ℕ) (v w : List ℤ) : Type 0 where
   none : k ≡ 0
-  is : w ≡ padded 0ℤ 3 v
+  is : w ≡ padded 0ℤ 4 v
 
 answer-point : (k : ℕ) (v w : List ℤ) → answered w ≡ paddedPoint (unless k v) → PointIs k v w
 unfolding paddedPoint unless
@@ -43,6 +43,14 @@ unfolding paddedPoint unless
 answer-refusal zero v l h = let z : _≡_ {A = ℕ} 0 1 = cc in absurd (omega arith)
 answer-refusal (suc k) v l h = record { same = cc; some = λ e. omega arith }
 
+-- the first k of m coordinates
+first-padded : {A : Type 0} (d : A) (k m : ℕ) (l : List A) → k ≤ m → take k (padded d m l) ≡ padded d k l
+unfolding padded
+first-padded d zero m l h = refl
+first-padded d (suc k) zero l h = absurd (omega arith)
+first-padded d (suc k) (suc m) [] h = ap (λ r. d ∷ r) (first-padded d k m [] (omega arith))
+first-padded d (suc k) (suc m) (x ∷ l) h = ap (λ r. x ∷ r) (first-padded d k m l (omega arith))
+
 -- ---- the move
 
 module _ (s p : List ℕ) (k : ℕ) where
@@ -52,12 +60,13 @@ module _ (s p : List ℕ) (k : ℕ) where
       let r = answer-refusal (pointRefusal s p) (pointOf (dimension s) (fieldOf s) (facetOf s p)) l h in
       sym (unless-refused (pointRefusal s p) (moveTo k (pointMillimetres s p)) (r .some) ∙ ap refused (r .same))
 
-  module _ (at : StepPoint) (h : answered (at .x ∷ at .y ∷ at .z ∷ []) ≡ paddedPoint (pointed s p)) where
-    point-is : PointIs (pointRefusal s p) (pointOf (dimension s) (fieldOf s) (facetOf s p)) (at .x ∷ at .y ∷ at .z ∷ [])
+  module _ (at : StepPoint) (h : answered (at .x ∷ at .y ∷ at .z ∷ at .w ∷ []) ≡ paddedPoint (pointed s p)) where
+    point-is : PointIs (pointRefusal s p) (pointOf (dimension s) (fieldOf s) (facetOf s p)) (at .x ∷ at .y ∷ at .z ∷ at .w ∷ [])
     unfolding pointed
-    point-is = answer-point (pointRefusal s p) (pointOf (dimension s) (fieldOf s) (facetOf s p)) (at .x ∷ at .y ∷ at .z ∷ []) h
+    point-is =
+        answer-point (pointRefusal s p) (pointOf (dimension s) (fieldOf s) (facetOf s p)) (at .x ∷ at .y ∷ at .z ∷ at .w ∷ []) h
 
-    at-size : (i : ℕ) → Size wholeLimit (getD (at .x ∷ at .y ∷ at .z ∷ []) i 0ℤ)
+    at-size : (i : ℕ) → Size wholeLimit (getD (at .x ∷ at .y ∷ at .z ∷ at .w ∷ []) i 0ℤ)
     unfolding stepLimit stepsPerUnit coordinateLimit
     at-size i =
         subst (λ (l : List ℤ). Size wholeLimit (getD l i 0ℤ)) (sym (point-is .is))
@@ -65,12 +74,16 @@ module _ (s p : List ℕ) (k : ℕ) where
 
     -- the cast of each coordinate loses nothing
     pub step-sizes : StepSizes at
-    step-sizes = record { x = at-size 0; y = at-size 1; z = at-size 2 }
+    step-sizes = record { x = at-size 0; y = at-size 1; z = at-size 2; w = at-size 3 }
+
+    -- what the pen shows of it
+    shown : at .x ∷ at .y ∷ at .z ∷ [] ≡ padded 0ℤ 3 (pointOf (dimension s) (fieldOf s) (facetOf s p))
+    shown = ap (take 3) (point-is .is) ∙ first-padded 0ℤ 3 4 (pointOf (dimension s) (fieldOf s) (facetOf s p)) (lit≤ tt)
 
     move-made : (m : List Float) → m ≡ map millimetre (at .x ∷ at .y ∷ at .z ∷ []) → answered (moveTo k m) ≡ movedTo s p k
     unfolding movedTo pointMillimetres
     move-made m e =
-        ap (λ v. answered (moveTo k v)) (e ∙ ap (map millimetre) (point-is .is))
+        ap (λ v. answered (moveTo k v)) (e ∙ ap (map millimetre) shown)
         ∙ sym (unless-answered (moveTo k (pointMillimetres s p)) (point-is .none))
 
     pub move-lift : (m : List Float) → m ≡ map millimetre (at .x ∷ at .y ∷ at .z ∷ []) → k ≡ 0 → answered (lift m) ≡ movedTo s p k

@@ -131,12 +131,12 @@ facet-share n φ p t a =
 
 pub point-size :
     (s p : List ℕ) → pointRefusal s p ≡ 0
-    → (i : ℕ) → Size stepLimit (getD (padded 0ℤ 3 (pointOf (dimension s) (fieldOf s) (facetOf s p))) i 0ℤ)
+    → (i : ℕ) → Size stepLimit (getD (padded 0ℤ 4 (pointOf (dimension s) (fieldOf s) (facetOf s p))) i 0ℤ)
 unfolding pointOf facetOf
 point-size s p h =
     let place : Place = decodePlace (dimension s) p in
     let t = point-accepted s p h in
     let low = traceable-limited (point-opens s p h) place (accepted-traceable (dimension s) (fieldOf s) place t) in
-    padded-size 3 _
+    padded-size 4 _
     (point-from-size (dimension s) (columns (fieldOf s) (facetVertices (place .facet))) (place .facet .masks)
     (facet-share (dimension s) (fieldOf s) place t) 0 (place .facet .low) (limited-size (place .facet .low) low))

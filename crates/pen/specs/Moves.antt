@@ -18,6 +18,7 @@ pub record StepSizes (p : StepPoint) : Type 0 where
   pub x : Size wholeLimit (p .x)
   pub y : Size wholeLimit (p .y)
   pub z : Size wholeLimit (p .z)
+  pub w : Size wholeLimit (p .w)
 
 -- behind the last of m places, with m above 0 and the mark set
 unfoldable pub closesAt : ℕ → Bool → ℕ → Bool

@@ -20,7 +20,7 @@ fn millimetre(steps: i64) -> f64
     steps as f64 / 1024.0
 }
 
-// A point in millimetres.
+// A point in millimetres, on axes 1 to 3.
 fn millimetres(p: StepPoint) -> Millimetres
     requires { ⌜ StepSizes p ⌝ }
     ensures { λ r. ⌜ millimetresAs r ≡ map millimetre (p .x ∷ p .y ∷ p .z ∷ []) ⌝ }

@@ -1,10 +1,9 @@
 -- The numbers read from 3n bytes make the place that the bytes name.
-use mathlib.Core.Path.{_≡_, refl, ap, _∙_}
+use mathlib.Core.Path.{_≡_, refl, sym, ap, _∙_}
 use mathlib.Core.List.{List}
 use Prim.Native.Nat.{ℕ, _+_, _*_, _-_, _≤_, _<_}
 use native.Mathlib.Omega.{arith}
 use lib.IntN.{ℤ}
-use borrow.Author.Tests.{lt-ltb, le-ltb}
 use Rattle.exact.specs.Int.{0ℤ}
 use Rattle.exact.specs.Size.{Is}
 use Rattle.exact.specs.Crossed.{countFrom}
@@ -14,28 +13,29 @@ use Rattle.paper.specs.Job.{decodePlace}
 use Rattle.bits.specs.Axes.{Axes}
 use Rattle.bits.specs.Read.{Reads}
 use Rattle.bits.proofs.EachDimension.{each-axes}
-use Rattle.places.specs.Held.{vertexAs, masksAs, facetAs, placeAs}
+use Rattle.places.specs.Held.{counted, vertexAs, masksAs, facetAs, placeAs}
 use Rattle.places.specs.PlaceBytes.{coordinateOf, maskOf, PlaceRead}
 use Rattle.places.specs.declared.HeldPlace.{HeldPlace}
+use Rattle.places.proofs.Counted.{number-counts, number-absent}
 
 -- ---- a number that counts, and one that does not
 
 module _ (n : ℕ) (b : List ℕ) where
   pub coordinate-counts : (a : ℕ) {r : ℤ} → a < n → Is 32768 (signedWord b (2 * a)) r → Is 32768 (coordinateOf n b a) r
   unfolding coordinateOf
-  coordinate-counts a l h = rw (lt-ltb a n l) h
+  coordinate-counts a l h = rw (sym (number-counts 0ℤ n a (signedWord b (2 * a)) l)) h
 
   pub coordinate-absent : (a : ℕ) → n ≤ a → Is 32768 (coordinateOf n b a) 0ℤ
   unfolding coordinateOf
-  coordinate-absent a l = rw (le-ltb a n l) (record { is = refl; size = record { size = omega arith } })
+  coordinate-absent a l = rw (sym (number-absent 0ℤ n a (signedWord b (2 * a)) l)) (record { is = refl; size = record { size = omega arith } })
 
   pub mask-counts : (k : ℕ) {r : ℕ} → k < n - 1 → Reads 256 (byte b (2 * n + k)) r → Reads 256 (maskOf n b k) r
   unfolding maskOf
-  mask-counts k l h = rw (lt-ltb k (n - 1) l) h
+  mask-counts k l h = rw (sym (number-counts 0 (n - 1) k (byte b (2 * n + k)) l)) h
 
   pub mask-absent : (k : ℕ) → n - 1 ≤ k → Reads 256 (maskOf n b k) 0
   unfolding maskOf
-  mask-absent k l = rw (le-ltb k (n - 1) l) (record { is = refl; small = omega arith })
+  mask-absent k l = rw (sym (number-absent 0 (n - 1) k (byte b (2 * n + k)) l)) (record { is = refl; small = omega arith })
 
 -- ---- the whole place
 
@@ -50,7 +50,7 @@ named n b = record {
 }
 
 named-is : (b : List ℕ) (n : ℕ) → Axes n → placeAs n (named n b) ≡ decodePlace n b
-unfolding placeAs facetAs vertexAs masksAs decodePlace coordinateOf maskOf countFrom named
+unfolding counted placeAs facetAs vertexAs masksAs decodePlace coordinateOf maskOf countFrom named
 named-is b = each-axes (λ n. placeAs n (named n b) ≡ decodePlace n b) refl refl refl
 
 pub place-read : {n : ℕ} {b : List ℕ} {x y z w : ℤ} {k l m s : ℕ} → Axes n

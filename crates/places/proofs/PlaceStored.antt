@@ -2,11 +2,11 @@
 use Prim.Native.Nat.{ℕ, suc, zero, _+_, _*_, _-_, _^_, _≤_, _<_}
 use native.Mathlib.Nat.{add-zero}
 use native.Mathlib.Omega.{arith}
+use native.Mathlib.Numerals.{unary-clauses}
 use mathlib.Core.Path.{_≡_, refl, sym, ap, _∙_}
 use mathlib.Core.Bool.{Bool, true, not, _&&_}
 use mathlib.Core.List.{List, [], _∷_, _++_, append-nil, append-assoc}
 use lib.Dec.{ltb, eqb}
-use lib.IntN.{ℤ}
 use lib.ListN.{length, set, getD, take}
 use lib.Seq.{sets}
 use borrow.Author.Tests.{ltb-true, lt-ltb}
@@ -22,16 +22,17 @@ use Rattle.paper.specs.Operations.{encodePlaces}
 use Rattle.paper.proofs.ShortPlaces.{short, shortPlace}
 use Rattle.bits.specs.Axes.{Axes}
 use Rattle.bits.proofs.EachDimension.{each-axes}
-use Rattle.places.specs.Held.{vertexAs, masksAs, facetAs, placeAs}
+use Rattle.places.specs.Held.{counted, vertexAs, masksAs, facetAs, placeAs}
 use Rattle.places.specs.PlaceBytes.{FitsBytes}
 use Rattle.places.specs.declared.Vertex.{Vertex}
 use Rattle.places.specs.declared.HeldPlace.{HeldPlace}
-use Rattle.places.proofs.WordBytes.{short-back}
+use Rattle.places.proofs.VertexBack.{heldBack}
+use Rattle.places.proofs.WordBytes.{back-short}
 
 -- ---- the numbers that count
 
 -- a test of the first n members of a list holds of each of them
-pub every-taken : {A : Type 0} (t : A → Bool) (n : ℕ) (l : List A) (k : ℕ) (d : A) → k < n → k < length l → every t (take n l) ≡ true
+every-taken : {A : Type 0} (t : A → Bool) (n : ℕ) (l : List A) (k : ℕ) (d : A) → k < n → k < length l → every t (take n l) ≡ true
     → t (getD l k d) ≡ true
 unfolding every
 every-taken t zero l k d h i e = absurd (omega arith)
@@ -62,121 +63,71 @@ powers : (n : ℕ) → Axes n → 2 ^ n ≤ 256
 powers = each-axes (λ n. 2 ^ n ≤ 256) (omega arith) (omega arith) (omega arith)
 
 module _ (n : ℕ) (p : HeldPlace) (a : Axes n) (h : chain n 0 (masksAs n p) ≡ true) where
-  pub mask-small : (k : ℕ) → k < n - 1 → k < 3 → getD (p .mask1 ∷ p .mask2 ∷ p .mask3 ∷ []) k 0 < 256
+  mask-small : (k : ℕ) → k < n - 1 → k < 3 → getD (p .mask1 ∷ p .mask2 ∷ p .mask3 ∷ []) k 0 < 256
   unfolding masksAs underByte
   mask-small k l m =
       let ms : List ℕ = p .mask1 ∷ p .mask2 ∷ p .mask3 ∷ [] in
       ltb-true (getD ms k 0) 256
       (every-taken underByte (n - 1) ms k 0 l m (chain-bytes n 0 (take (n - 1) ms) (powers n a) h))
 
--- ---- one number more
+-- what a number that counts asks for: it fits its bytes, and there is room for them
+module _ (at n : ℕ) {len k : ℕ} (kept : k ≡ len) where
+  pub coordinate-room : (v : Vertex) → Axes n × ((every short (vertexAs n v) ≡ true) × (at + 2 * n ≤ len)) → (a : ℕ) → a < 4 → a < n
+      → (short (back (getD (v .x ∷ v .y ∷ v .z ∷ v .w ∷ []) a 0ℤ)) ≡ true) × (at + 2 * a + 2 ≤ k)
+  coordinate-room v (_, (s, room)) a l h = (back-short _ (coordinate-short n v s a h l), omega (arith, room, kept))
+
+  pub mask-room : (p : HeldPlace) → Axes n × ((chain n 0 (masksAs n p) ≡ true) × (at + (n - 1) ≤ len)) → (i : ℕ) → i < 3 → i < n - 1
+      → (getD (p .mask1 ∷ p .mask2 ∷ p .mask3 ∷ []) i 0 < 256) × (at + i < k)
+  mask-room p (axes, (s, room)) i l h = (mask-small n p axes s i h l, omega (arith, room, kept))
+
+-- ---- coordinates and masks in the order of the code, those that do not count left out
+
+module _ (b : List ℕ) (at : ℕ) where
+  coordinates-in-order : (v : Vertex) (n : ℕ) → Axes n
+      → sets
+      (sets (sets (sets b (at + 0) (counted [] n 0 (wordBytes (v .x)))) (at + 2) (counted [] n 1 (wordBytes (v .y)))) (at + 4) (counted [] n 2 (wordBytes (v .z))))
+      (at + 6) (counted [] n 3 (wordBytes (v .w)))
+      ≡ sets b at (vertexBytes (vertexAs n v))
+  unfolding counted vertexAs vertexBytes wordBytes
+  coordinates-in-order v = each-axes _ (simp unary-clauses refl) (simp unary-clauses refl) (simp unary-clauses refl)
+
+  masks-in-order : (p : HeldPlace) (n : ℕ) → Axes n
+      → sets (sets (sets b (at + 0) (counted [] (n - 1) 0 (p .mask1 ∷ []))) (at + 1) (counted [] (n - 1) 1 (p .mask2 ∷ []))) (at + 2)
+      (counted [] (n - 1) 2 (p .mask3 ∷ []))
+      ≡ sets b at (masksAs n p)
+  unfolding counted masksAs
+  masks-in-order p = each-axes _ (simp unary-clauses refl) (simp unary-clauses refl) (simp unary-clauses refl)
+
+  pub vertex-stored : {n : ℕ} {v : Vertex} {k l m r : List ℕ} → Axes n → heldBack v ≡ v
+      → k ≡ sets b (at + 0) (counted [] n 0 (wordBytes (back (v .x)))) → l ≡ sets k (at + 2) (counted [] n 1 (wordBytes (back (v .y))))
+      → m ≡ sets l (at + 4) (counted [] n 2 (wordBytes (back (v .z)))) → r ≡ sets m (at + 6) (counted [] n 3 (wordBytes (back (v .w))))
+      → r ≡ sets b at (vertexBytes (vertexAs n v))
+  unfolding heldBack
+  vertex-stored {n} {v} a h ex ey ez ew =
+      rw (ew, ez, ey, ex) (coordinates-in-order (heldBack v) n a) ∙ ap (λ u. sets b at (vertexBytes (vertexAs n u))) h
+
+  pub masks-stored : {n : ℕ} (p : HeldPlace) {k l m : List ℕ} → Axes n
+      → k ≡ sets b (at + 0) (counted [] (n - 1) 0 (p .mask1 ∷ [])) → l ≡ sets k (at + 1) (counted [] (n - 1) 1 (p .mask2 ∷ []))
+      → m ≡ sets l (at + 2) (counted [] (n - 1) 2 (p .mask3 ∷ [])) → m ≡ sets b at (masksAs n p)
+  masks-stored {n} p a e f g = rw (g, f, e) (masks-in-order p n a)
+
+-- ---- the parts of a place, one behind another
 
 pub sets-append : (l : List ℕ) (i : ℕ) (us vs : List ℕ) → sets l i (us ++ vs) ≡ sets (sets l i us) (i + length us) vs
 sets-append l i [] vs = ap (λ k. sets l k vs) (sym (add-zero i))
 sets-append l i (u ∷ us) vs =
     sets-append (set l i u) (suc i) us vs ∙ ap (λ k. sets (sets (set l i u) (suc i) us) k vs) (omega arith)
 
-bytes-append : (v : Grid.Vertex) (x : ℤ) → vertexBytes (v ++ (x ∷ [])) ≡ vertexBytes v ++ wordBytes x
-unfolding vertexBytes
-bytes-append [] x = append-nil (wordBytes x)
-bytes-append (y ∷ v) x = ap (λ l. wordBytes y ++ l) (bytes-append v x) ∙ sym (append-assoc (wordBytes y) (vertexBytes v) (wordBytes x))
-
-pub bytes-length : (v : Grid.Vertex) → length (vertexBytes v) ≡ 2 * length v
+bytes-length : (v : Grid.Vertex) → length (vertexBytes v) ≡ 2 * length v
 unfolding vertexBytes wordBytes
 bytes-length [] = refl
 bytes-length (x ∷ v) = omega (arith, bytes-length v)
-
--- a coordinate behind those of v
-pub word-more : (b : List ℕ) (at : ℕ) {l m : List ℕ} {k : ℕ} (v : Grid.Vertex) (x : ℤ) → short x ≡ true
-    → l ≡ sets b at (vertexBytes v) → k ≡ at + 2 * length v
-    → m ≡ sets l k (wordBytes (back x)) → m ≡ sets b at (vertexBytes (v ++ (x ∷ [])))
-word-more b at {k = k} v x s e f g =
-    let place : k ≡ at + length (vertexBytes v) = omega (arith, bytes-length v) in
-    g
-    ∙ (λ i. sets (e i) (place i) (wordBytes (short-back x s i)))
-    ∙ sym (sets-append b at (vertexBytes v) (wordBytes x))
-    ∙ ap (sets b at) (sym (bytes-append v x))
-
--- a mask behind the masks ms
-pub mask-more : (b : List ℕ) (at : ℕ) {l r : List ℕ} {k : ℕ} (ms : List ℕ) (m : ℕ) → l ≡ sets b at ms → k ≡ at + length ms → r ≡ set l k m
-    → r ≡ sets b at (ms ++ (m ∷ []))
-mask-more b at ms m e f g = g ∙ (λ i. set (e i) (f i) m) ∙ sym (sets-append b at ms (m ∷ []))
-
--- ---- the coordinates and the masks of a held place
-
-module _ (n : ℕ) (v : Vertex) where
-  pub vertex-two : n ≡ 2 → vertexAs n v ≡ v .x ∷ v .y ∷ []
-  unfolding vertexAs
-  vertex-two e = rw e
-
-  pub vertex-three : n ≡ 3 → vertexAs n v ≡ v .x ∷ v .y ∷ v .z ∷ []
-  unfolding vertexAs
-  vertex-three e = rw e
-
-  pub vertex-four : n ≡ 4 → vertexAs n v ≡ v .x ∷ v .y ∷ v .z ∷ v .w ∷ []
-  unfolding vertexAs
-  vertex-four e = rw e
-
-module _ (n : ℕ) (p : HeldPlace) where
-  pub masks-two : n ≡ 2 → masksAs n p ≡ p .mask1 ∷ []
-  unfolding masksAs
-  masks-two e = rw e
-
-  pub masks-three : n ≡ 3 → masksAs n p ≡ p .mask1 ∷ p .mask2 ∷ []
-  unfolding masksAs
-  masks-three e = rw e
-
-  pub masks-four : n ≡ 4 → masksAs n p ≡ p .mask1 ∷ p .mask2 ∷ p .mask3 ∷ []
-  unfolding masksAs
-  masks-four e = rw e
-
--- ---- coordinates and masks in the order of the code
-
-module _ (b : List ℕ) (at n : ℕ) (v : Vertex) (a : Axes n) (h : every short (vertexAs n v) ≡ true) {l m : List ℕ}
-    (ex : l ≡ sets b at (wordBytes (back (v .x)))) (ey : m ≡ sets l (at + 2) (wordBytes (back (v .y)))) where
-  two : m ≡ sets b at (vertexBytes (v .x ∷ v .y ∷ []))
-  unfolding vertexBytes
-  two =
-      word-more b at (v .x ∷ []) (v .y) (coordinate-short n v h 1 (a .low) (omega arith))
-      (word-more b at [] (v .x) (coordinate-short n v h 0 (omega (arith, a .low)) (omega arith)) refl (omega arith) ex)
-      refl ey
-
-  pub two-written : n ≡ 2 → m ≡ sets b at (vertexBytes (vertexAs n v))
-  two-written d = two ∙ ap (λ u. sets b at (vertexBytes u)) (sym (vertex-two n v d))
-
-  module _ (more : n ≡ 2 → ⊥) {q : List ℕ} (ez : q ≡ sets m (at + 4) (wordBytes (back (v .z)))) where
-    three : q ≡ sets b at (vertexBytes (v .x ∷ v .y ∷ v .z ∷ []))
-    three =
-        word-more b at (v .x ∷ v .y ∷ []) (v .z) (coordinate-short n v h 2 (omega (arith, a .low, more)) (omega arith)) two refl ez
-
-    pub three-written : n ≡ 3 → q ≡ sets b at (vertexBytes (vertexAs n v))
-    three-written d = three ∙ ap (λ u. sets b at (vertexBytes u)) (sym (vertex-three n v d))
-
-    pub four-written : (n ≡ 3 → ⊥) → {r : List ℕ} → r ≡ sets q (at + 6) (wordBytes (back (v .w))) → r ≡ sets b at (vertexBytes (vertexAs n v))
-    four-written last ew =
-        word-more b at (v .x ∷ v .y ∷ v .z ∷ []) (v .w) (coordinate-short n v h 3 (omega (arith, a .low, more, last)) (omega arith)) three refl ew
-        ∙ ap (λ u. sets b at (vertexBytes u)) (sym (vertex-four n v (omega (arith, a .low, a .high, more, last))))
-
-module _ (b : List ℕ) (at n : ℕ) (p : HeldPlace) {l : List ℕ} (e1 : l ≡ set b at (p .mask1)) where
-  pub one-mask : n ≡ 2 → l ≡ sets b at (masksAs n p)
-  one-mask d = e1 ∙ ap (sets b at) (sym (masks-two n p d))
-
-  module _ {m : List ℕ} (e2 : m ≡ set l (at + 1) (p .mask2)) where
-    second : m ≡ sets b at (p .mask1 ∷ p .mask2 ∷ [])
-    second = mask-more b at (p .mask1 ∷ []) (p .mask2) e1 refl e2
-
-    pub two-masks : n ≡ 3 → m ≡ sets b at (masksAs n p)
-    two-masks d = second ∙ ap (sets b at) (sym (masks-three n p d))
-
-    pub three-masks : n ≡ 4 → {r : List ℕ} → r ≡ set m (at + 2) (p .mask3) → r ≡ sets b at (masksAs n p)
-    three-masks d e3 =
-        mask-more b at (p .mask1 ∷ p .mask2 ∷ []) (p .mask3) second refl e3 ∙ ap (sets b at) (sym (masks-four n p d))
 
 vertex-length : (v : Vertex) (n : ℕ) → Axes n → length (vertexAs n v) ≡ n
 unfolding vertexAs
 vertex-length v = each-axes (λ n. length (vertexAs n v) ≡ n) refl refl refl
 
-masks-length : (p : HeldPlace) (n : ℕ) → Axes n → length (masksAs n p) ≡ n - 1
+pub masks-length : (p : HeldPlace) (n : ℕ) → Axes n → length (masksAs n p) ≡ n - 1
 unfolding masksAs
 masks-length p = each-axes (λ n. length (masksAs n p) ≡ n - 1) refl refl refl
 

@@ -1,12 +1,18 @@
 -- A vertex and a place as the code holds them, with room for four axes: what they stand for in dimension n, and how large their numbers are.
 use Prim.Native.Nat.{ℕ, _-_}
+use mathlib.Core.Bool.{cond}
 use mathlib.Core.List.{List, [], _∷_}
+use lib.Dec.{ltb}
 use lib.ListN.{take}
 use Rattle.exact.specs.Size.{Size}
 use Rattle.curves.specs.Grid.{Facet, Place}
 use Rattle.curves.specs.Grid as Grid
 use Rattle.places.specs.declared.Vertex.{Vertex}
 use Rattle.places.specs.declared.HeldPlace.{HeldPlace}
+
+-- number i if it is among the first n, which count, else d
+unfoldable pub counted : {A : Type 0} → A → ℕ → ℕ → A → A
+counted d n i x = cond (ltb i n) x d
 
 -- the first n coordinates
 unfoldable pub vertexAs : ℕ → Vertex → Grid.Vertex

@@ -5,9 +5,12 @@ use bits::read;
 use paper::Placed;
 ghost use mathlib.Core.Path.{_≡_};
 ghost use mathlib.Core.Bool.{true};
+ghost use mathlib.Core.List.{[], _∷_};
 ghost use Prim.Native.Nat.{_+_, _*_, _-_, _≤_, _<_};
+ghost use lib.Dec.{eqb};
 ghost use lib.ListN.{length, set};
 ghost use lib.Seq.{sets};
+ghost use Rattle.exact.specs.Int.{0ℤ};
 ghost use Rattle.exact.specs.Size.{Is};
 ghost use Rattle.curves.specs.Grid.{chain, placeOk, sameVertex, sameMasks};
 ghost use Rattle.curves.specs.Step.{every};
@@ -18,7 +21,7 @@ ghost use Rattle.paper.specs.Operations.{onSameFacet};
 ghost use Rattle.paper.specs.Answers.{placedAs, paddedPlace};
 ghost use Rattle.bits.specs.Axes.{Axes};
 ghost use Rattle.bits.specs.Read.{Reads};
-ghost use Rattle.places.specs.Held.{vertexAs, masksAs, placeAs};
+ghost use Rattle.places.specs.Held.{counted, vertexAs, masksAs, placeAs};
 ghost use Rattle.places.specs.PlaceBytes.{coordinateOf, maskOf, PlaceRead, FitsBytes};
 
 // A lattice vertex: its coordinates on axes 1 to 4, of which the first n count.
@@ -151,21 +154,35 @@ fn put_byte(buffer: &mut [u8], at: usize, b: u64)
     buffer[at] = b as u8;
 }
 
+// Coordinate a, two bytes; nothing from n on.
+fn put_coordinate(buffer: &mut [u8], at: usize, n: usize, a: usize, x: i64)
+    requires { ⌜ (a < n → (short x ≡ true) × (at + 2 * a + 2 ≤ length (now buffer))) ⌝ }
+    ensures { λ r. ⌜ now (buffer .exit) ≡ sets (now (buffer .entry)) (at + 2 * a) (counted [] n a (wordBytes x)) ⌝ }
+{
+    if a < n {
+        put_word(buffer, at + 2 * a, x);
+    }
+}
+
 // The coordinates, two bytes each.
 fn put_vertex(buffer: &mut [u8], at: usize, n: usize, v: Vertex)
     requires { ⌜ (Axes n) × ((every short (vertexAs n v) ≡ true) × (at + 2 * n ≤ length (now buffer))) ⌝ }
     ensures { λ r. ⌜ now (buffer .exit) ≡ sets (now (buffer .entry)) at (vertexBytes (vertexAs n v)) ⌝ }
 {
-    put_word(buffer, at, v.x);
-    put_word(buffer, at + 2, v.y);
-    if n == 2 {
-        return;
+    put_coordinate(buffer, at, n, 0, v.x);
+    put_coordinate(buffer, at, n, 1, v.y);
+    put_coordinate(buffer, at, n, 2, v.z);
+    put_coordinate(buffer, at, n, 3, v.w);
+}
+
+// Mask k, a byte; nothing from count on.
+fn put_mask(buffer: &mut [u8], at: usize, count: usize, k: usize, m: u64)
+    requires { ⌜ (k < count → (m < 256) × (at + k < length (now buffer))) ⌝ }
+    ensures { λ r. ⌜ now (buffer .exit) ≡ sets (now (buffer .entry)) (at + k) (counted [] count k (m ∷ [])) ⌝ }
+{
+    if k < count {
+        put_byte(buffer, at + k, m);
     }
-    put_word(buffer, at + 4, v.z);
-    if n == 3 {
-        return;
-    }
-    put_word(buffer, at + 6, v.w);
 }
 
 // The masks, a byte each.
@@ -173,15 +190,10 @@ fn put_masks(buffer: &mut [u8], at: usize, n: usize, p: HeldPlace)
     requires { ⌜ (Axes n) × ((chain n 0 (masksAs n p) ≡ true) × (at + (n - 1) ≤ length (now buffer))) ⌝ }
     ensures { λ r. ⌜ now (buffer .exit) ≡ sets (now (buffer .entry)) at (masksAs n p) ⌝ }
 {
-    put_byte(buffer, at, p.mask1);
-    if n == 2 {
-        return;
-    }
-    put_byte(buffer, at + 1, p.mask2);
-    if n == 3 {
-        return;
-    }
-    put_byte(buffer, at + 2, p.mask3);
+    let masks = n - 1;
+    put_mask(buffer, at, masks, 0, p.mask1);
+    put_mask(buffer, at, masks, 1, p.mask2);
+    put_mask(buffer, at, masks, 2, p.mask3);
 }
 
 // The 3n bytes of a place: n coordinates, n − 1 masks, the side.
@@ -196,45 +208,46 @@ pub fn write_place(buffer: &mut [u8], at: usize, n: usize, p: HeldPlace)
 
 // ---- two places on the same facet
 
+// Coordinate a is the same; true from n on.
+fn same_coordinate(n: usize, a: usize, x: i64, y: i64) -> bool
+    ensures { λ r. ⌜ r ≡ counted true n a (sameVertex (x ∷ []) (y ∷ [])) ⌝ }
+{
+    if a < n {
+        return x == y;
+    }
+    true
+}
+
 fn same_vertex(n: usize, v: Vertex, u: Vertex) -> bool
     requires { ⌜ Axes n ⌝ }
     ensures { λ r. ⌜ r ≡ sameVertex (vertexAs n v) (vertexAs n u) ⌝ }
 {
-    if v.x != u.x {
-        return false;
+    let x = same_coordinate(n, 0, v.x, u.x);
+    let y = same_coordinate(n, 1, v.y, u.y);
+    let z = same_coordinate(n, 2, v.z, u.z);
+    let w = same_coordinate(n, 3, v.w, u.w);
+    x & y & z & w
+}
+
+// Mask k is the same; true from count on.
+fn same_mask(count: usize, k: usize, l: u64, m: u64) -> bool
+    ensures { λ r. ⌜ r ≡ counted true count k (eqb l m) ⌝ }
+{
+    if k < count {
+        return l == m;
     }
-    if v.y != u.y {
-        return false;
-    }
-    if n == 2 {
-        return true;
-    }
-    if v.z != u.z {
-        return false;
-    }
-    if n == 3 {
-        return true;
-    }
-    v.w == u.w
+    true
 }
 
 fn same_masks(n: usize, p: HeldPlace, q: HeldPlace) -> bool
     requires { ⌜ Axes n ⌝ }
     ensures { λ r. ⌜ r ≡ sameMasks (masksAs n p) (masksAs n q) ⌝ }
 {
-    if p.mask1 != q.mask1 {
-        return false;
-    }
-    if n == 2 {
-        return true;
-    }
-    if p.mask2 != q.mask2 {
-        return false;
-    }
-    if n == 3 {
-        return true;
-    }
-    p.mask3 == q.mask3
+    let masks = n - 1;
+    let first = same_mask(masks, 0, p.mask1, q.mask1);
+    let second = same_mask(masks, 1, p.mask2, q.mask2);
+    let third = same_mask(masks, 2, p.mask3, q.mask3);
+    first & second & third
 }
 
 // Two places have the same facet.
@@ -250,28 +263,41 @@ pub fn same_facet(n: usize, p: HeldPlace, q: HeldPlace) -> bool
 
 // ---- the public answer
 
-// The place as an answer has it, with room for three axes: numbers that do not count are 0.
+// Coordinate a, or 0 from n on.
+fn coordinate_or_zero(n: usize, a: usize, x: i64) -> i64
+    ensures { λ r. ⌜ r ≡ counted 0ℤ n a x ⌝ }
+{
+    if a < n {
+        return x;
+    }
+    0
+}
+
+// Mask k, or 0 from count on.
+fn mask_or_zero(count: usize, k: usize, m: u64) -> u64
+    ensures { λ r. ⌜ r ≡ counted 0 count k m ⌝ }
+{
+    if k < count {
+        return m;
+    }
+    0
+}
+
+// The place as an answer has it: numbers that do not count are 0.
 pub fn answer_place(n: usize, p: HeldPlace) -> Placed
     requires { ⌜ Axes n ⌝ }
     ensures { λ r. ⌜ placedAs r ≡ paddedPlace (placeAs n p) ⌝ }
 {
     let v = p.low;
-    if n == 2 {
-        return Placed {
-            x: v.x,
-            y: v.y,
-            z: 0,
-            mask1: p.mask1,
-            mask2: 0,
-            side: p.side,
-        };
-    }
+    let masks = n - 1;
     Placed {
-        x: v.x,
-        y: v.y,
-        z: v.z,
-        mask1: p.mask1,
-        mask2: p.mask2,
+        x: coordinate_or_zero(n, 0, v.x),
+        y: coordinate_or_zero(n, 1, v.y),
+        z: coordinate_or_zero(n, 2, v.z),
+        w: coordinate_or_zero(n, 3, v.w),
+        mask1: mask_or_zero(masks, 0, p.mask1),
+        mask2: mask_or_zero(masks, 1, p.mask2),
+        mask3: mask_or_zero(masks, 2, p.mask3),
         side: p.side,
     }
 }

@@ -1,5 +1,5 @@
--- What `on_axis` asks of `coordinate` and what it gets, for the cells of a crossed facet; and the definition's point, written out.
-use Prim.Native.Nat.{ℕ, _-_, _≤_}
+-- What `on_axis` asks of `coordinate` and what it gets, for the cells of a crossed facet; and the definition's point, axis by axis.
+use Prim.Native.Nat.{ℕ, _≤_, _<_}
 use mathlib.Core.Path.{_≡_, refl, sym, ap, ap₂, _∙_, subst}
 use mathlib.Core.Bool.{true}
 use mathlib.Core.List.{List, [], _∷_}
@@ -19,14 +19,16 @@ use Rattle.bits.specs.Axes.{Axes}
 use Rattle.bits.proofs.EachDimension.{each-axes}
 use Rattle.places.specs.declared.Vertex.{Vertex}
 use Rattle.places.specs.declared.HeldPlace.{HeldPlace}
-use Rattle.places.specs.Held.{vertexAs, masksAs, VertexSize}
+use Rattle.places.specs.Held.{counted, vertexAs, masksAs, VertexSize}
+use Rattle.places.proofs.PlaceStored.{masks-length}
+use Rattle.places.proofs.Counted.{number-counts, number-absent}
 use Rattle.facets.specs.Cells.{Cells, facetColumns}
 use Rattle.facets.specs.Entries.{determinantLimit}
 use Rattle.facets.proofs.FacetMinors.{facet-length, facet-ones}
+use Rattle.points.specs.Coordinates.{stepsOn}
 use Rattle.points.specs.Shares.{Share, denominatorLimit, lowLimit, stepsLimit}
 use Rattle.points.proofs.Rounded.{coordinate-size}
 use Rattle.points.proofs.Shares.{crossed-share}
-use Rattle.points.proofs.WeightSums.{masks-length}
 
 -- ---- an axis
 module _ {n : ℕ} {cells : List ℤ} (h : Cells n cells) (x : crossed n (facetColumns n cells n) ≡ true) (p : HeldPlace) (axis : ℕ) where
@@ -56,51 +58,48 @@ module _ {n : ℕ} {cells : List ℤ} (h : Cells n cells) (x : crossed n (facetC
         let held : Share W (back d) = subst (λ z. Share W z) (sym d-back) share in
         (back-size s (lit≤ tt), (subst (Size denominatorLimit) (sym d-back) D-size, subst (λ z. Share z (back d)) (sym w-back) held))
 
-    pub gives : {q : ℤ} → q ≡ coordinateSteps (back low) (back w) (back d) → Is stepsLimit (coordinateSteps low W D) (back q)
-    gives e =
+    pub gives : {q : ℤ} → axis < n → q ≡ coordinateSteps (back low) (back w) (back d)
+        → Is stepsLimit (stepsOn n (facetColumns n cells n) (masksAs n p) axis low) (back q)
+    unfolding stepsOn
+    gives l e =
         holds-call
         (record {
-          is = e ∙ ap₂ (λ a b. coordinateSteps (back low) a b) w-back d-back ∙ ap (λ a. coordinateSteps a W D) (back-is s (lit≤ tt));
-          size = coordinate-size (s, (D-size, share));
+          is = e ∙ ap₂ (λ a b. coordinateSteps (back low) a b) w-back d-back
+              ∙ ap (λ a. coordinateSteps a W D) (back-is s (lit≤ tt))
+              ∙ number-counts 0ℤ n axis (coordinateSteps low W D) l;
+          size = subst (Size stepsLimit) (number-counts 0ℤ n axis (coordinateSteps low W D) l) (coordinate-size (s, (D-size, share)));
         })
         (lit≤ tt)
 
--- what `on_axis` gives, for a coordinate of the lowest vertex
-axis-is :
-    {low r : ℤ} (w d : ℤ) → Size lowLimit low → Is stepsLimit (coordinateSteps (back low) w d) r → back r ≡ coordinateSteps low w d
-axis-is w d s e = holds-call e (lit≤ tt) .is ∙ ap (λ l. coordinateSteps l w d) (back-is s (lit≤ tt))
-
 -- ---- the point
-module _ (n : ℕ) (cs : List Column) (ms : List ℕ) (v : Vertex) where
-  -- the coordinate on an axis
-  abbrev pub stepsOn : ℕ → ℤ → ℤ
-  stepsOn axis low = coordinateSteps low (weightSum n cs 1 ms axis) (determinant n cs)
+module _ (n : ℕ) (cs : List Column) (ms : List ℕ) where
+  pub no-axis : (axis : ℕ) (low : ℤ) → n ≤ axis → Is stepsLimit (stepsOn n cs ms axis low) 0ℤ
+  unfolding stepsOn
+  no-axis axis low l =
+      let none = number-absent 0ℤ n axis (coordinateSteps low (weightSum n cs 1 ms axis) (determinant n cs)) l in
+      record { is = none; size = subst (Size stepsLimit) none (record { size = omega arith }) }
 
-  axis-steps : (axis : ℕ) {low r : ℤ} → Size lowLimit low → Is stepsLimit (stepsOn axis (back low)) r → back r ≡ stepsOn axis low
-  axis-steps axis = axis-is (weightSum n cs 1 ms axis) (determinant n cs)
+  -- what `on_axis` gives, for a coordinate of the lowest vertex
+  axis-is : (axis : ℕ) {low r : ℤ} → Size lowLimit low → Is stepsLimit (stepsOn n cs ms axis (back low)) r → back r ≡ stepsOn n cs ms axis low
+  axis-is axis s e = holds-call e (lit≤ tt) .is ∙ ap (stepsOn n cs ms axis) (back-is s (lit≤ tt))
 
-  pub point-two :
-      VertexSize lowLimit v → {a b : ℤ} → Is stepsLimit (stepsOn 0 (back (v .x))) a → Is stepsLimit (stepsOn 1 (back (v .y))) b → n ≡ 2
-      → _≡_ {A = List ℤ} (back a ∷ back b ∷ 0ℤ ∷ []) (padded 0ℤ 3 (pointFrom n cs ms 0 (vertexAs n v)))
-  unfolding padded pointFrom vertexAs
-  point-two s a b e =
-      ap₂ (λ s t. s ∷ t ∷ 0ℤ ∷ []) (axis-steps 0 (s .x) a) (axis-steps 1 (s .y) b)
-      ∙ ap (λ m. padded 0ℤ 3 (pointFrom n cs ms 0 (vertexAs m v))) (sym e)
+  module _ (v : Vertex) where
+    -- the coordinate on an axis, if it is one of m
+    abbrev among : ℕ → ℕ → ℤ → ℤ
+    among m axis low = counted 0ℤ m axis (coordinateSteps low (weightSum n cs 1 ms axis) (determinant n cs))
 
-  -- three coordinates in dimension 3, and the first three of four
-  first-three :
-      (m : ℕ) → Axes m → (m ≡ 2 → ⊥)
-      → padded 0ℤ 3 (pointFrom n cs ms 0 (vertexAs m v)) ≡ stepsOn 0 (v .x) ∷ stepsOn 1 (v .y) ∷ stepsOn 2 (v .z) ∷ []
-  unfolding padded pointFrom vertexAs
-  first-three =
-      each-axes (λ m. (m ≡ 2 → ⊥) → padded 0ℤ 3 (pointFrom n cs ms 0 (vertexAs m v)) ≡ stepsOn 0 (v .x) ∷ stepsOn 1 (v .y) ∷ stepsOn 2 (v .z) ∷ [])
-      (λ d. absurd (d refl)) (λ d. refl) (λ d. refl)
+    abbrev four : ℕ → List ℤ
+    four m = among m 0 (v .x) ∷ among m 1 (v .y) ∷ among m 2 (v .z) ∷ among m 3 (v .w) ∷ []
 
-  pub point-three :
-      VertexSize lowLimit v
-      → {a b c : ℤ} → Is stepsLimit (stepsOn 0 (back (v .x))) a → Is stepsLimit (stepsOn 1 (back (v .y))) b
-      → Is stepsLimit (stepsOn 2 (back (v .z))) c → Axes n → (n ≡ 2 → ⊥)
-      → _≡_ {A = List ℤ} (back a ∷ back b ∷ back c ∷ []) (padded 0ℤ 3 (pointFrom n cs ms 0 (vertexAs n v)))
-  point-three s a b c axes d =
-      ap₂ (λ s t. s ∷ t) (axis-steps 0 (s .x) a) (ap₂ (λ s t. s ∷ t ∷ []) (axis-steps 1 (s .y) b) (axis-steps 2 (s .z) c))
-      ∙ sym (first-three n axes d)
+    four-is : (m : ℕ) → Axes m → four m ≡ padded 0ℤ 4 (pointFrom n cs ms 0 (vertexAs m v))
+    unfolding counted padded pointFrom vertexAs
+    four-is = each-axes (λ m. four m ≡ padded 0ℤ 4 (pointFrom n cs ms 0 (vertexAs m v))) refl refl refl
+
+    pub point-is :
+        Axes n → VertexSize lowLimit v → {x y z w : ℤ}
+        → Is stepsLimit (stepsOn n cs ms 0 (back (v .x))) x → Is stepsLimit (stepsOn n cs ms 1 (back (v .y))) y
+        → Is stepsLimit (stepsOn n cs ms 2 (back (v .z))) z → Is stepsLimit (stepsOn n cs ms 3 (back (v .w))) w
+        → _≡_ {A = List ℤ} (back x ∷ back y ∷ back z ∷ back w ∷ []) (padded 0ℤ 4 (pointFrom n cs ms 0 (vertexAs n v)))
+    unfolding stepsOn
+    point-is a s x y z w =
+        (λ i. axis-is 0 (s .x) x i ∷ axis-is 1 (s .y) y i ∷ axis-is 2 (s .z) z i ∷ axis-is 3 (s .w) w i ∷ []) ∙ four-is n a

@@ -19,7 +19,6 @@ use Rattle.exact.proofs.SizeLaws.{size-weaken}
 use Rattle.exact.proofs.Bits.{back, holds-call, fits-add, holds-add}
 use Rattle.paper.specs.Values.{hasAxis, weightSum}
 use Rattle.bits.specs.Axes.{Axes}
-use Rattle.bits.proofs.EachDimension.{each-axes}
 use Rattle.places.specs.declared.HeldPlace.{HeldPlace}
 use Rattle.places.specs.Held.{masksAs}
 use Rattle.facets.specs.Entries.{coefficientLimit, determinantLimit}
@@ -62,10 +61,6 @@ module _ (n : ℕ) (a : Axes n) (p : HeldPlace) where
   masks-none : drop (n - 1) (masksAs n p) ≡ []
   unfolding masksAs
   masks-none = drop-none (n - 1) (p .mask1 ∷ p .mask2 ∷ p .mask3 ∷ [])
-
-pub masks-length : (p : HeldPlace) (n : ℕ) → Axes n → length (masksAs n p) ≡ n - 1
-unfolding masksAs
-masks-length p = each-axes (λ n. length (masksAs n p) ≡ n - 1) refl refl refl
 
 -- the three ways of `mask_at`
 module _ (p : HeldPlace) (i : ℕ) where

@@ -21,6 +21,7 @@ ghost use Rattle.paper.specs.Answers.{padded};
 ghost use Rattle.places.specs.Held.{vertexAs, masksAs, VertexSize};
 ghost use Rattle.facets.specs.Cells.{Cells, facetColumns};
 ghost use Rattle.facets.specs.Entries.{coefficientLimit, determinantLimit};
+ghost use Rattle.points.specs.Coordinates.{stepsOn};
 ghost use Rattle.points.specs.Shares.{Share, denominatorLimit, lowLimit, stepsLimit};
 
 // The mask of vertex i, which is not the lowest.
@@ -40,7 +41,7 @@ fn mask_at(p: HeldPlace, i: usize) -> u64
 // The coefficient of power 0 at vertex i if the vertex's mask has the axis, else 0.
 fn weight(n: usize, cells: &[i64; 15], i: usize, mask: u64, axis: usize) -> i64
     requires { ⌜ Cells n (now cells) ⌝ }
-    requires { ⌜ (i < n) × (axis < 3) ⌝ }
+    requires { ⌜ (i < n) × (axis < 4) ⌝ }
     ensures { λ r. ⌜ Is coefficientLimit (cond (hasAxis mask axis) (coefficient n (facetColumns n (now (cells .entry)) n) i 0) 0ℤ) r ⌝ }
 {
     if (mask >> axis) % 2 == 1 {
@@ -52,7 +53,7 @@ fn weight(n: usize, cells: &[i64; 15], i: usize, mask: u64, axis: usize) -> i64
 // The sum of the weights, times D, of those vertices whose mask has the axis.
 fn weight_sum(n: usize, p: HeldPlace, cells: &[i64; 15], axis: usize) -> i64
     requires { ⌜ Cells n (now cells) ⌝ }
-    requires { ⌜ axis < 3 ⌝ }
+    requires { ⌜ axis < 4 ⌝ }
     ensures { λ r. ⌜ Is determinantLimit (weightSum n (facetColumns n (now (cells .entry)) n) 1 (masksAs n p) axis) r ⌝ }
 {
     let mut sum: i64 = 0;
@@ -71,36 +72,32 @@ pub fn coordinate(low: i64, num: i64, d: i64) -> i64
     1024 * low + steps as i64
 }
 
-// The coordinate on one axis of the point of a crossed facet with determinant d; low is the lowest vertex's.
+// The coordinate on one axis of the point of a crossed facet with determinant d, or 0 from n on; low is the lowest vertex's.
 fn on_axis(n: usize, p: HeldPlace, cells: &[i64; 15], axis: usize, low: i64, d: i64) -> i64
     requires { ⌜ Cells n (now cells) ⌝ }
     requires { ⌜ crossed n (facetColumns n (now cells) n) ≡ true ⌝ }
-    requires { ⌜ (axis < 3) × ((Size lowLimit low) × (Is determinantLimit (determinant n (facetColumns n (now cells) n)) d)) ⌝ }
-    ensures { λ r. ⌜ Is stepsLimit (coordinateSteps low (weightSum n (facetColumns n (now (cells .entry)) n) 1 (masksAs n p) axis) (determinant n (facetColumns n (now (cells .entry)) n))) r ⌝ }
+    requires { ⌜ (Size lowLimit low) × (Is determinantLimit (determinant n (facetColumns n (now cells) n)) d) ⌝ }
+    ensures { λ r. ⌜ Is stepsLimit (stepsOn n (facetColumns n (now (cells .entry)) n) (masksAs n p) axis low) r ⌝ }
 {
-    coordinate(low, weight_sum(n, p, cells, axis), d)
+    if axis < n {
+        return coordinate(low, weight_sum(n, p, cells, axis), d);
+    }
+    0
 }
 
-// The point of a crossed facet, in steps of 1/1024; z is 0 in dimension 2.
+// The point of a crossed facet, in steps of 1/1024; a coordinate from n on is 0.
 pub fn point(n: usize, p: HeldPlace, cells: &[i64; 15]) -> StepPoint
     requires { ⌜ Cells n (now cells) ⌝ }
     requires { ⌜ crossed n (facetColumns n (now cells) n) ≡ true ⌝ }
     requires { ⌜ VertexSize lowLimit (p .low) ⌝ }
-    ensures { λ r. ⌜ r .x ∷ r .y ∷ r .z ∷ [] ≡ padded 0ℤ 3 (pointFrom n (facetColumns n (now (cells .entry)) n) (masksAs n p) 0 (vertexAs n (p .low))) ⌝ }
+    ensures { λ r. ⌜ r .x ∷ r .y ∷ r .z ∷ r .w ∷ [] ≡ padded 0ℤ 4 (pointFrom n (facetColumns n (now (cells .entry)) n) (masksAs n p) 0 (vertexAs n (p .low))) ⌝ }
 {
-    let x = p.low.x;
-    let y = p.low.y;
-    let z = p.low.z;
+    let low = p.low;
     let d = determinant(n, cells, n);
-    let px = on_axis(n, p, cells, 0, x, d);
-    let py = on_axis(n, p, cells, 1, y, d);
-    if n == 2 {
-        return StepPoint { x: px, y: py, z: 0 };
-    }
-    let pz = on_axis(n, p, cells, 2, z, d);
     StepPoint {
-        x: px,
-        y: py,
-        z: pz,
+        x: on_axis(n, p, cells, 0, low.x, d),
+        y: on_axis(n, p, cells, 1, low.y, d),
+        z: on_axis(n, p, cells, 2, low.z, d),
+        w: on_axis(n, p, cells, 3, low.w, d),
     }
 }

@@ -2,14 +2,14 @@
 -- place some row and vertex match (`some-match`), since every order is a row.
 use Prim.Native.Nat.{ℕ, suc, _-_, _≤_, _<_}
 use mathlib.Core.Path.{_≡_, refl, sym, ap, ap₂, _∙_}
-use mathlib.Core.Bool.{Bool, true, false, _&&_, cond, false≢true}
+use mathlib.Core.Bool.{Bool, true, false, _&&_, _||_, false≢true}
+use mathlib.Core.Bool as Booleans
 use mathlib.Core.List.{List, [], _∷_, List·Memᴰ·not-nil, List·Memᴰ·cases-cons}
-use mathlib.Core.Logic.{_⊎_, inl, inr, ⊎-elim}
+use mathlib.Core.Logic.{⊎-elim}
 use native.Mathlib.Omega.{arith}
-use native.Mathlib.Decide.{ℕ-discrete}
 use lib.ListN.{length, getD, take}
-use lib.Dec.{eqb}
-use borrow.Author.Tests.{eqb-true, eq-eqb, ne-eqb}
+use lib.Dec.{eqb, leb}
+use borrow.Author.Tests.{eqb-true, eq-eqb}
 use Rattle.exact.proofs.AndTests.{and-left, and-right, and-true}
 use Rattle.curves.specs.Grid.{Place, Incidence, placeAt, placeOf, placeOk, incidence, sameMasks, orders}
 use Rattle.curves.specs.Curve.{_∈_}
@@ -18,7 +18,7 @@ use Rattle.curves.proofs.IncidencePlace.{incidence-place}
 use Rattle.curves.proofs.IncidenceOf.{Valid, incidence-ok, place-incidence}
 use Rattle.curves.proofs.Orders.{orders-complete}
 use Rattle.paper.specs.Limits.{dimensionOk}
-use Rattle.paper.proofs.Tests.{DimensionRange, dimension-range}
+use Rattle.paper.proofs.Tests.{dimension-range}
 use Rattle.bits.specs.Axes.{Axes}
 use Rattle.bits.proofs.EachDimension.{each-axes}
 use Rattle.places.specs.declared.HeldPlace.{HeldPlace}
@@ -29,75 +29,44 @@ use Rattle.orders.specs.Corners.{cornerUnder, lowOver}
 use Rattle.orders.proofs.Rows.{row-order}
 use Rattle.orders.proofs.FacetMasks.{masks-are}
 use Rattle.orders.proofs.Anywhere.{placed, place-anywhere, low-corner}
-use Rattle.simplices.specs.Search.{matches, Found}
+use Rattle.simplices.specs.Search.{sameMask, matches, Found}
 
 -- ---- the masks that count
 
--- three pairs of masks compared, of which the first n − 1 count
-abbrev pub compared : ℕ → ℕ → ℕ → ℕ → ℕ → ℕ → ℕ → Bool
-compared n a b c x y z = eqb a x && cond (eqb n 2) true (eqb b y && cond (eqb n 3) true (eqb c z && true))
-
+-- the first n − 1 of three pairs of masks compared
 taken-compared :
     (n : ℕ) → Axes n → (a b c x y z : ℕ)
-    → sameMasks (take (n - 1) (a ∷ b ∷ c ∷ [])) (take (n - 1) (x ∷ y ∷ z ∷ [])) ≡ compared n a b c x y z
+    → sameMasks (take (n - 1) (a ∷ b ∷ c ∷ [])) (take (n - 1) (x ∷ y ∷ z ∷ []))
+    ≡ ((leb n 1 || eqb a x) && ((leb n 2 || eqb b y) && ((leb n 3 || eqb c z) && true)))
 unfolding sameMasks
 taken-compared n h a b c x y z =
-    each-axes (λ n. sameMasks (take (n - 1) (a ∷ b ∷ c ∷ [])) (take (n - 1) (x ∷ y ∷ z ∷ [])) ≡ compared n a b c x y z) refl refl refl n h
+    each-axes
+    (λ n.
+    sameMasks (take (n - 1) (a ∷ b ∷ c ∷ [])) (take (n - 1) (x ∷ y ∷ z ∷ []))
+    ≡ ((leb n 1 || eqb a x) && ((leb n 2 || eqb b y) && ((leb n 3 || eqb c z) && true))))
+    refl refl refl n h
 
-masks-compared :
-    (n row out : ℕ) → InTable n row → out ≤ n → (p : HeldPlace)
-    → sameMasks (masksAt n row out) (masksAs n p)
-    ≡ compared n (facetMask n row out 1) (facetMask n row out 2) (facetMask n row out 3) (p .mask1) (p .mask2) (p .mask3)
-unfolding masksAs
-masks-compared n row out h l p =
-    ap (λ ms. sameMasks ms (masksAs n p)) (masks-are n row out h l)
-    ∙ taken-compared n (h .axes) (facetMask n row out 1) (facetMask n row out 2) (facetMask n row out 3) (p .mask1) (p .mask2) (p .mask3)
-
--- what each answer of the comparison says, from the masks that were computed
+-- what each answer of the comparison says
 module _ {n row out : ℕ} (pre : InTable n row × (out ≤ n)) (p : HeldPlace) where
-  its-masks :
+  masks-compared :
       sameMasks (masksAt n row out) (masksAs n p)
-      ≡ compared n (facetMask n row out 1) (facetMask n row out 2) (facetMask n row out 3) (p .mask1) (p .mask2) (p .mask3)
-  its-masks = masks-compared n row out (pre .0) (pre .1) p
+      ≡ (sameMask n row out 1 (p .mask1) && (sameMask n row out 2 (p .mask2) && (sameMask n row out 3 (p .mask3) && true)))
+  unfolding masksAs sameMask
+  masks-compared =
+      ap (λ ms. sameMasks ms (masksAs n p)) (masks-are n row out (pre .0) (pre .1))
+      ∙ taken-compared n (pre .0 .axes) (facetMask n row out 1) (facetMask n row out 2) (facetMask n row out 3) (p .mask1) (p .mask2) (p .mask3)
 
-  module _ {a : ℕ} (is-first : a ≡ facetMask n row out 1) where
-    pub first-differs : (a ≡ p .mask1 → ⊥) → false ≡ sameMasks (masksAt n row out) (masksAs n p)
-    first-differs d = sym (its-masks ∙ rw (ne-eqb (facetMask n row out 1) (p .mask1) (λ e. d (is-first ∙ e))))
+  pub first-differs : sameMask n row out 1 (p .mask1) ≡ false → false ≡ sameMasks (masksAt n row out) (masksAs n p)
+  first-differs d = sym (masks-compared ∙ rw d)
 
-    module _ (first : a ≡ p .mask1) where
-      test-first : eqb (facetMask n row out 1) (p .mask1) ≡ true
-      test-first = eq-eqb (facetMask n row out 1) (p .mask1) (sym is-first ∙ first)
+  module _ (first : sameMask n row out 1 (p .mask1) ≡ true) where
+    pub second-differs : sameMask n row out 2 (p .mask2) ≡ false → false ≡ sameMasks (masksAt n row out) (masksAs n p)
+    second-differs d = sym (masks-compared ∙ rw (first, d))
 
-      pub same-of-two : n ≡ 2 → true ≡ sameMasks (masksAt n row out) (masksAs n p)
-      same-of-two two = sym (its-masks ∙ rw (test-first, eq-eqb n 2 two))
-
-      module _ (not-two : n ≡ 2 → ⊥) {b : ℕ} (is-second : b ≡ facetMask n row out 2) where
-        pub second-differs : (b ≡ p .mask2 → ⊥) → false ≡ sameMasks (masksAt n row out) (masksAs n p)
-        second-differs d =
-            sym
-            (its-masks
-            ∙ rw (test-first, ne-eqb n 2 not-two, ne-eqb (facetMask n row out 2) (p .mask2) (λ e. d (is-second ∙ e))))
-
-        module _ (second : b ≡ p .mask2) where
-          test-second : eqb (facetMask n row out 2) (p .mask2) ≡ true
-          test-second = eq-eqb (facetMask n row out 2) (p .mask2) (sym is-second ∙ second)
-
-          pub same-of-three : n ≡ 3 → true ≡ sameMasks (masksAt n row out) (masksAs n p)
-          same-of-three three =
-              sym (its-masks ∙ rw (test-first, ne-eqb n 2 not-two, test-second, eq-eqb n 3 three))
-
-          module _ (not-three : n ≡ 3 → ⊥) {c : ℕ} (is-third : c ≡ facetMask n row out 3) where
-            pub third-differs : (c ≡ p .mask3 → ⊥) → false ≡ sameMasks (masksAt n row out) (masksAs n p)
-            third-differs d =
-                sym
-                (its-masks
-                ∙ rw (test-first, ne-eqb n 2 not-two, test-second, ne-eqb n 3 not-three, ne-eqb (facetMask n row out 3) (p .mask3) (λ e. d (is-third ∙ e))))
-
-            pub same-of-four : c ≡ p .mask3 → true ≡ sameMasks (masksAt n row out) (masksAs n p)
-            same-of-four third =
-                sym
-                (its-masks
-                ∙ rw (test-first, ne-eqb n 2 not-two, test-second, ne-eqb n 3 not-three, eq-eqb (facetMask n row out 3) (p .mask3) (sym is-third ∙ third)))
+    pub third-decides :
+        sameMask n row out 2 (p .mask2) ≡ true → {t : Bool} → t ≡ sameMask n row out 3 (p .mask3)
+        → t ≡ sameMasks (masksAt n row out) (masksAs n p)
+    third-decides second is-third = is-third ∙ sym (masks-compared ∙ rw (first, second) (Booleans.and-true (sameMask n row out 3 (p .mask3))))
 
 -- the masks first, then the side
 module _
@@ -157,14 +126,6 @@ listed-at x (y ∷ l) m = ⊎-elim (λ e. (0, omega arith, sym e)) (λ r. go (li
     go : (k : ℕ) × (k < length l) × (getD l k [] ≡ x) → (k : ℕ) × (k < suc (length l)) × (getD (y ∷ l) k [] ≡ x)
     go (k, b, e) = (suc k, omega arith, e)
 
--- a dimension that has a table of orders
-in-table : (n : ℕ) → DimensionRange n → (n ≡ 2) ⊎ (n ≡ 3)
-in-table n r = go (ℕ-discrete n 2)
-  where
-    go : Dec (n ≡ 2) → (n ≡ 2) ⊎ (n ≡ 3)
-    go (yes e) = inl e
-    go (no e) = inr (omega (arith, r .low, r .high))
-
 module _ (n : ℕ) (d : dimensionOk n ≡ true) (p : Place) (w : placeOk n p ≡ true) where
   simplex : Incidence
   simplex = incidence n p
@@ -183,7 +144,8 @@ module _ (n : ℕ) (d : dimensionOk n ≡ true) (p : Place) (w : placeOk n p ≡
   pub some-match : ((row : ℕ) → row < length (orders n) → (out : ℕ) → out ≤ n → matches n row out p ≡ false) → ⊥
   unfolding masksAt sideAt orderAt
   some-match none =
-      let (row, b, e) = listed-at (simplex .order) (orders n) (orders-complete n (in-table n (dimension-range n d)) (simplex .order) (valid .is-order)) in
+      let range = dimension-range n d in
+      let (row, b, e) = listed-at (simplex .order) (orders n) (orders-complete n (range .low) (range .high) (simplex .order) (valid .is-order)) in
       false≢true
       (sym (none row b (simplex .out) (valid .out-bound))
       ∙ matches-of n row (simplex .out) p

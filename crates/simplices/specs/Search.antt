@@ -1,12 +1,16 @@
 -- What the search of the table finds: the row and the vertex left out of the simplex on a place's side.
 use Prim.Native.Nat.{ℕ, _≤_, _<_}
 use mathlib.Core.Path.{_≡_}
-use mathlib.Core.Bool.{Bool, true, false, _&&_}
-use lib.Dec.{eqb}
+use mathlib.Core.Bool.{Bool, true, false, _&&_, _||_}
+use lib.Dec.{eqb, leb}
 use Rattle.curves.specs.Grid.{Place, sameMasks, incidence}
 use Rattle.orders.specs.Table.{orderAt, InTable}
-use Rattle.orders.specs.Facets.{masksAt, sideAt}
+use Rattle.orders.specs.Facets.{masksAt, sideAt, facetMask}
 use Rattle.orders.specs.Corners.{cornerUnder}
+
+-- mask i of the facet without vertex `out` is m, or the facet has no such mask
+unfoldable pub sameMask : ℕ → ℕ → ℕ → ℕ → ℕ → Bool
+sameMask n row out i m = leb n i || eqb (facetMask n row out i) m
 
 -- the facet without vertex `out` has the place's masks and side
 unfoldable pub matches : ℕ → ℕ → ℕ → Place → Bool

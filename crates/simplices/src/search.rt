@@ -3,13 +3,13 @@
 
 ghost use mathlib.Core.Path.{_≡_};
 ghost use mathlib.Core.Bool.{true};
-ghost use Prim.Native.Nat.{_≤_};
+ghost use Prim.Native.Nat.{_≤_, _<_};
 ghost use Rattle.curves.specs.Grid.{sameMasks, placeOk};
 ghost use Rattle.paper.specs.Limits.{dimensionOk};
 ghost use Rattle.places.specs.Held.{masksAs, placeAs};
 ghost use Rattle.orders.specs.Table.{InTable};
 ghost use Rattle.orders.specs.Facets.{masksAt};
-ghost use Rattle.simplices.specs.Search.{matches, FoundOut, Found};
+ghost use Rattle.simplices.specs.Search.{sameMask, matches, FoundOut, Found};
 use orders::facet;
 use orders::table;
 use places::HeldPlace;
@@ -20,27 +20,29 @@ pub struct Incident {
     pub out: usize,
 }
 
+// Mask i of the facet without vertex `out` is m; true where the facet has no such mask.
+fn same_mask(n: usize, row: usize, out: usize, i: usize, m: u64) -> bool
+    requires { ⌜ (InTable n row) × ((out ≤ n) × (i < 4)) ⌝ }
+    ensures { λ r. ⌜ r ≡ sameMask n row out i m ⌝ }
+{
+    if n <= i {
+        return true;
+    }
+    facet::facet_mask(n, row, out, i) == m
+}
+
 // The facet without vertex `out` has the place's masks.
 pub fn same_masks(n: usize, row: usize, out: usize, p: HeldPlace) -> bool
     requires { ⌜ (InTable n row) × (out ≤ n) ⌝ }
     ensures { λ r. ⌜ r ≡ sameMasks (masksAt n row out) (masksAs n p) ⌝ }
 {
-    if facet::facet_mask(n, row, out, 1) != p.mask1 {
+    if !same_mask(n, row, out, 1, p.mask1) {
         return false;
     }
-    if n == 2 {
-        return true;
-    }
-    if facet::facet_mask(n, row, out, 2) != p.mask2 {
+    if !same_mask(n, row, out, 2, p.mask2) {
         return false;
     }
-    if n == 3 {
-        return true;
-    }
-    if facet::facet_mask(n, row, out, 3) != p.mask3 {
-        return false;
-    }
-    true
+    same_mask(n, row, out, 3, p.mask3)
 }
 
 // The facet without vertex `out` has the place's masks and side.

@@ -1,2 +1,2 @@
--- What the contracts of this crate cite: the facet whose numbers a line shows.
+-- What the contracts of this crate cite: how long a line may be.
 pub mod Lines

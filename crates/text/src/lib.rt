@@ -54,17 +54,17 @@ fn put_numbers(buffer: &mut [u8], at: usize, m: usize, u: i64, v: i64, w: i64) -
     put_next(buffer, b, w)
 }
 
-// The first m of three masks.
-fn put_masks(buffer: &mut [u8], at: usize, m: usize, mask1: u64, mask2: u64, mask3: u64) -> usize
-    requires { ⌜ (1 ≤ m) × (at + 63 ≤ length (now buffer)) ⌝ }
-    ensures { λ r. ⌜ Writes 63 (blankNumbers (take m (pos mask1 ∷ pos mask2 ∷ pos mask3 ∷ []))) at (now (buffer .entry)) (now (buffer .exit)) r ⌝ }
+// The first k of three masks.
+fn put_masks(buffer: &mut [u8], at: usize, k: usize, mask1: u64, mask2: u64, mask3: u64) -> usize
+    requires { ⌜ (1 ≤ k) × (at + 63 ≤ length (now buffer)) ⌝ }
+    ensures { λ r. ⌜ Writes 63 (blankNumbers (take k (pos mask1 ∷ pos mask2 ∷ pos mask3 ∷ []))) at (now (buffer .entry)) (now (buffer .exit)) r ⌝ }
 {
     let a = put_mask(buffer, at, mask1);
-    if m == 1 {
+    if k == 1 {
         return a;
     }
     let b = put_mask(buffer, a, mask2);
-    if m == 2 {
+    if k == 2 {
         return b;
     }
     put_mask(buffer, b, mask3)
@@ -110,18 +110,21 @@ pub fn put_first(buffer: &mut [u8], at: usize, n: u64, v: Verdict, count: u64) -
 // Lowest vertex, masks, point in steps: the numbers of each that count.
 pub fn put_place(buffer: &mut [u8], at: usize, n: usize, p: HeldPlace, q: StepPoint) -> usize
     requires { ⌜ (Axes n) × (at + lineLimit ≤ length (now buffer)) ⌝ }
-    ensures { λ r. ⌜ Writes lineLimit (placeLine (facetAs n p) (take n (q .x ∷ q .y ∷ q .z ∷ []))) at (now (buffer .entry)) (now (buffer .exit)) r ⌝ }
+    ensures { λ r. ⌜ Writes lineLimit (placeLine (facetAs n p) (take n (q .x ∷ q .y ∷ q .z ∷ q .w ∷ []))) at (now (buffer .entry)) (now (buffer .exit)) r ⌝ }
 {
     let low = p.low;
     let x = low.x;
     let y = low.y;
     let z = low.z;
+    let w = low.w;
     let px = q.x;
     let py = q.y;
     let pz = q.z;
+    let pw = q.w;
     let a = put_signed(buffer, at, x);
-    let b = put_numbers(buffer, a, n - 1, y, z, low.w);
+    let b = put_numbers(buffer, a, n - 1, y, z, w);
     let c = put_masks(buffer, b, n - 1, p.mask1, p.mask2, p.mask3);
-    let d = put_numbers(buffer, c, n, px, py, pz);
-    put_byte(buffer, d, b'\n')
+    let d = put_next(buffer, c, px);
+    let e = put_numbers(buffer, d, n - 1, py, pz, pw);
+    put_byte(buffer, e, b'\n')
 }

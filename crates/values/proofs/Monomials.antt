@@ -1,27 +1,31 @@
 -- The terms of a polynomial that has passed Open's tests, at the vertex of the tables of powers: a term's bytes lie inside the body, the
 -- exponents together are within the degree's limit, and so are the products within theirs.
-use mathlib.Core.Path.{_≡_}
+use mathlib.Core.Path.{_≡_, refl}
 use mathlib.Core.List.{List}
 use Prim.Native.Nat.{ℕ, _+_, _*_, _^_, _≤_, _<_}
 use native.Mathlib.Omega.{arith}
-use native.Mathlib.Nat.{le-trans}
-use lib.IntN.{ℤ, _*ℤ_}
-use lib.ListN.{length}
-use lib.Dec.{lit≤}
+use native.Mathlib.Nat.{le-trans, one-le-pow}
+use lib.IntN.{ℤ, pos, _*ℤ_}
+use lib.ListN.{length, getD}
+use lib.Dec.{lit≤, lit<}
 use mir.Syntax.{w64}
 use mir.Val.{SFits}
-use Rattle.exact.specs.Int.{_⊗_, power}
+use Rattle.exact.specs.Int.{_⊗_, power, 0ℤ, 1ℤ}
 use Rattle.exact.specs.Size.{Size, Is}
 use Rattle.exact.proofs.Ring.{mul-one}
-use Rattle.exact.proofs.SizeLaws.{size-weaken}
+use Rattle.exact.proofs.SizeLaws.{size-pos, size-weaken}
 use Rattle.exact.proofs.Bits.{holds-call, back, fits-mul, holds-mul}
 use Rattle.paper.specs.Limits.{coordinateLimit, coefficientLimit, degreeLimit}
 use Rattle.paper.specs.Job.{termCount, exponentOf, coefficientOf, degree}
 use Rattle.paper.specs.Values.{monomial, termValue}
 use Rattle.paper.proofs.Terms.{polynomial-term, exponent-degree}
-use Rattle.values.specs.Sums.{monomialLimit, termSize, Polynomial, base, tabled}
+use Rattle.bits.specs.Axes.{Axes}
+use Rattle.bits.proofs.EachDimension.{each-axes}
+use Rattle.places.specs.Held.{counted}
+use Rattle.places.proofs.Counted.{number-counts, number-absent}
+use Rattle.values.specs.Sums.{monomialLimit, termSize, Polynomial, PowersOf, base, tabled, factorOn}
 use Rattle.values.proofs.Limits.{coefficient-word, monomial-word, term-word}
-use Rattle.values.proofs.Powers.{power-bound, power-word, powers-fit, powers-product}
+use Rattle.values.proofs.Powers.{Computed, power-bound, power-word, powers-product, power-entry}
 
 -- a term's eight bytes lie inside the body
 pub term-inside : (b : List ℕ) (i : ℕ) → i < termCount b → 8 * i + 8 ≤ length b
@@ -50,86 +54,59 @@ exponents {n} {b} p i l =
 is-weaken : {m k : ℕ} {v r : ℤ} → Is m v r → m ≤ k → Is k v r
 is-weaken i h = record { is = i .is; size = size-weaken (i .size) h }
 
--- the power of the coordinate of a table in term i
-abbrev pub Factor : List ℕ → ℕ → ℕ → List ℤ → ℤ → Type 0
-Factor b i a p f = Is (coordinateLimit ^ exponentOf b i a) (power (base p) (exponentOf b i a)) f
+-- a factor of term i that a call answered
+abbrev pub Factor : ℕ → List ℕ → ℕ → ℕ → List ℤ → ℤ → Type 0
+Factor n b i a p f = Is (coordinateLimit ^ exponentOf b i a) (factorOn n b i a p) f
 
-module _ {b : List ℕ} {i : ℕ} (e : Exponents b i) (n : ℕ) (px py pz pw : List ℤ) where
-  -- the exponent of an axis in term i, and the power of the axis's coordinate
-  abbrev exponent : ℕ → ℕ
-  exponent a = exponentOf b i a
+-- read from the table on an axis that counts, else 1
+pub factor-counts :
+    (n : ℕ) (b : List ℕ) (i a : ℕ) {r : ℕ} {p : List ℤ} → a < n → PowersOf (base p) p → r ≡ exponentOf b i a → exponentOf b i a ≤ degreeLimit
+    → Factor n b i a p (back (getD p r 0ℤ))
+unfolding factorOn
+factor-counts n b i a {p = p} l h e d = rw (← number-counts 1ℤ n a (power (base p) (exponentOf b i a)) l) (power-entry h e d)
 
-  abbrev part : ℕ → List ℤ → ℤ
-  part a p = power (base p) (exponentOf b i a)
+pub factor-absent : (n : ℕ) (b : List ℕ) (i a : ℕ) (p : List ℤ) → n ≤ a → Factor n b i a p (pos 1)
+unfolding factorOn coordinateLimit
+factor-absent n b i a p l =
+    rw (← number-absent 1ℤ n a (power (base p) (exponentOf b i a)) l)
+    (record { is = refl; size = size-weaken (size-pos 1) (one-le-pow (exponentOf b i a) coordinateLimit (lit< tt)) })
 
-  held : (a : ℕ) (p : List ℤ) {f : ℤ} → a < 4 → Factor b i a p f → Is (coordinateLimit ^ exponent a) (part a p) (back f)
-  held a p l j = holds-call j (power-word (exponent a) (e .each a l))
+-- the product of the four factors
+monomial-as :
+    (b : List ℕ) (i : ℕ) (px py pz pw : List ℤ) (n : ℕ) → Axes n
+    → monomial b i 0 (tabled n px py pz pw) ≡ factorOn n b i 0 px ⊗ (factorOn n b i 1 py ⊗ (factorOn n b i 2 pz ⊗ factorOn n b i 3 pw))
+unfolding monomial tabled factorOn counted
+monomial-as b i px py pz pw =
+    each-axes
+    (λ n. monomial b i 0 (tabled n px py pz pw) ≡ factorOn n b i 0 px ⊗ (factorOn n b i 1 py ⊗ (factorOn n b i 2 pz ⊗ factorOn n b i 3 pw)))
+    (rw (mul-one 1ℤ)) refl (rw mul-one)
 
-  -- the factors of the first two axes
-  module _ {f g : ℤ} (j : Factor b i 0 px f) (k : Factor b i 1 py g) where
-    first : Is (coordinateLimit ^ exponent 0) (part 0 px) (back f)
-    first = held 0 px (lit≤ tt) j
+-- a factor in 64 bits
+held : {b : List ℕ} {i : ℕ} → Exponents b i → (a : ℕ) → a < 4 → {v r : ℤ} → Is (coordinateLimit ^ exponentOf b i a) v r
+    → Is (coordinateLimit ^ exponentOf b i a) v (back r)
+held {b} {i} e a l j = holds-call j (power-word (exponentOf b i a) (e .each a l))
 
-    second : Is (coordinateLimit ^ exponent 1) (part 1 py) (back g)
-    second = held 1 py (lit≤ tt) k
+-- f · (g · (h · k)), as the code multiplies: each product fits, and the whole is the number v
+pub record Product (v f g h k : ℤ) : Type 0 where
+  pub two : SFits w64 (back h *ℤ back k)
+  pub three : SFits w64 (back g *ℤ back (back h *ℤ back k))
+  pub four : Computed monomialLimit v (back f *ℤ back (back g *ℤ back (back h *ℤ back k)))
 
-    pub two-fit : SFits w64 (back f *ℤ back g)
-    two-fit = powers-fit (exponent 0) (exponent 1) (omega (arith, e .sum)) first second
-
-    pub two-powers : n ≡ 2 → Is monomialLimit (monomial b i 0 (tabled n px py pz pw)) (back (back f *ℤ back g))
-    unfolding monomial tabled
-    two-powers h =
-        let u = powers-product (exponent 0) (exponent 1) (omega (arith, e .sum)) first second in
-        rw (h, mul-one) (is-weaken u (power-bound _ (omega (arith, e .sum))))
-
-    -- and of the third
-    module _ {r : ℤ} (l : Factor b i 2 pz r) where
-      third : Is (coordinateLimit ^ exponent 2) (part 2 pz) (back r)
-      third = held 2 pz (lit≤ tt) l
-
-      last-two : Is (coordinateLimit ^ (exponent 1 + exponent 2)) (part 1 py ⊗ part 2 pz) (back (back g *ℤ back r))
-      last-two = powers-product (exponent 1) (exponent 2) (omega (arith, e .sum)) second third
-
-      pub three-fit-last : SFits w64 (back g *ℤ back r)
-      three-fit-last = powers-fit (exponent 1) (exponent 2) (omega (arith, e .sum)) second third
-
-      pub three-fit : SFits w64 (back f *ℤ back (back g *ℤ back r))
-      three-fit = powers-fit (exponent 0) (exponent 1 + exponent 2) (omega (arith, e .sum)) first last-two
-
-      pub three-powers : n ≡ 3
-          → Is monomialLimit (monomial b i 0 (tabled n px py pz pw)) (back (back f *ℤ back (back g *ℤ back r)))
-      unfolding monomial tabled
-      three-powers h =
-          let u = powers-product (exponent 0) (exponent 1 + exponent 2) (omega (arith, e .sum)) first last-two in
-          rw (h, mul-one) (is-weaken u (power-bound _ (omega (arith, e .sum))))
-
-      -- and of the fourth
-      module _ {t : ℤ} (o : Factor b i 3 pw t) where
-        fourth : Is (coordinateLimit ^ exponent 3) (part 3 pw) (back t)
-        fourth = held 3 pw (lit≤ tt) o
-
-        upper : Is (coordinateLimit ^ (exponent 2 + exponent 3)) (part 2 pz ⊗ part 3 pw) (back (back r *ℤ back t))
-        upper = powers-product (exponent 2) (exponent 3) (omega (arith, e .sum)) third fourth
-
-        last-three : Is (coordinateLimit ^ (exponent 1 + (exponent 2 + exponent 3))) (part 1 py ⊗ (part 2 pz ⊗ part 3 pw))
-            (back (back g *ℤ back (back r *ℤ back t)))
-        last-three = powers-product (exponent 1) (exponent 2 + exponent 3) (omega (arith, e .sum)) second upper
-
-        pub four-fit-last : SFits w64 (back r *ℤ back t)
-        four-fit-last = powers-fit (exponent 2) (exponent 3) (omega (arith, e .sum)) third fourth
-
-        pub four-fit-upper : SFits w64 (back g *ℤ back (back r *ℤ back t))
-        four-fit-upper = powers-fit (exponent 1) (exponent 2 + exponent 3) (omega (arith, e .sum)) second upper
-
-        pub four-fit : SFits w64 (back f *ℤ back (back g *ℤ back (back r *ℤ back t)))
-        four-fit = powers-fit (exponent 0) (exponent 1 + (exponent 2 + exponent 3)) (omega (arith, e .sum)) first last-three
-
-        pub four-powers : n ≡ 4
-            → Is monomialLimit (monomial b i 0 (tabled n px py pz pw)) (back (back f *ℤ back (back g *ℤ back (back r *ℤ back t))))
-        unfolding monomial tabled
-        four-powers h =
-            let u = powers-product (exponent 0) (exponent 1 + (exponent 2 + exponent 3)) (omega (arith, e .sum)) first last-three in
-            rw (h, mul-one) (is-weaken u (power-bound _ (omega (arith, e .sum))))
+pub product :
+    {n : ℕ} {b : List ℕ} {i : ℕ} → Polynomial n b × (i < termCount b) → (px py pz pw : List ℤ) {f g h k : ℤ}
+    → Factor n b i 0 px f → Factor n b i 1 py g → Factor n b i 2 pz h → Factor n b i 3 pw k
+    → Product (monomial b i 0 (tabled n px py pz pw)) f g h k
+product {n} {b} {i} (p, l) px py pz pw x y z w =
+    let term = exponents p i l in
+    let exponent : ℕ → ℕ = exponentOf b i in
+    let two = powers-product (exponent 2) (exponent 3) (omega (arith, term .sum)) (held term 2 (lit≤ tt) z) (held term 3 (lit≤ tt) w) in
+    let three = powers-product (exponent 1) (exponent 2 + exponent 3) (omega (arith, term .sum)) (held term 1 (lit≤ tt) y) (two .1) in
+    let four = powers-product (exponent 0) (exponent 1 + (exponent 2 + exponent 3)) (omega (arith, term .sum)) (held term 0 (lit≤ tt) x) (three .1) in
+    record {
+      two = two .0;
+      three = three .0;
+      four = (four .0, rw (monomial-as b i px py pz pw n (p .axes)) (is-weaken (four .1) (power-bound _ (omega (arith, term .sum)))));
+    }
 
 -- ---- a term
 

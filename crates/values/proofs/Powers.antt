@@ -1,7 +1,7 @@
 -- Powers of coordinates up to the degree's limit, the table of them, and their products: all stay far inside 64 bits.
 use mathlib.Core.Path.{_≡_, refl, subst, _∙_}
 use mathlib.Core.List.{List, [], _∷_}
-use Prim.Native.Nat.{ℕ, suc, zero, _+_, _*_, _^_, _-_, _≤_, _<_}
+use Prim.Native.Nat.{ℕ, suc, zero, _+_, _^_, _-_, _≤_, _<_}
 use native.Mathlib.Omega.{arith}
 use native.Mathlib.Nat.{le-trans, pow-succ', pow-le-pow-right}
 use lib.IntN.{ℤ, pos, _*ℤ_}
@@ -34,73 +34,62 @@ power-word k h = le-trans (power-bound k h) (rw monomial-limit (lit≤ tt))
 
 -- ---- products of powers
 
+-- a product fits 64 bits, and there it is the number v, of size at most m
+abbrev pub Computed : ℕ → ℤ → ℤ → Type 0
+Computed m v y = SFits w64 y × Is m v (back y)
+
 -- two powers whose exponents together are within the degree's limit
-module _ (p q : ℕ) (h : p + q ≤ degreeLimit) {v w f g : ℤ} (i : Is (coordinateLimit ^ p) v f) (j : Is (coordinateLimit ^ q) w g) where
-  bound : coordinateLimit ^ p * coordinateLimit ^ q ≤ 2 ^ 63 - 1
-  bound = subst (λ (m : ℕ). m ≤ 2 ^ 63 - 1) (pow-add coordinateLimit p q) (power-word (p + q) h)
-
-  pub powers-fit : SFits w64 (f *ℤ g)
-  powers-fit = fits-mul i j bound
-
-  pub powers-product : Is (coordinateLimit ^ (p + q)) (v ⊗ w) (back (f *ℤ g))
-  powers-product = rw (pow-add coordinateLimit p q) (holds-mul i j bound)
+pub powers-product :
+    (p q : ℕ) → p + q ≤ degreeLimit → {v w f g : ℤ} → Is (coordinateLimit ^ p) v f → Is (coordinateLimit ^ q) w g
+    → Computed (coordinateLimit ^ (p + q)) (v ⊗ w) (f *ℤ g)
+powers-product p q h i j =
+    let bound = subst (λ (m : ℕ). m ≤ 2 ^ 63 - 1) (pow-add coordinateLimit p q) (power-word (p + q) h) in
+    (fits-mul i j bound, rw (pow-add coordinateLimit p q) (holds-mul i j bound))
 
 -- ---- the table
 
 module _ {x : ℤ} (s : Size coordinateLimit x) where
-  pub one-is : Is (coordinateLimit ^ 0) (power x 0) (pos 1)
+  one-is : Is (coordinateLimit ^ 0) (power x 0) (pos 1)
   unfolding power
   one-is = record { is = refl; size = size-power s 0 }
 
-  pub itself-is : Is (coordinateLimit ^ 1) (power x 1) (back x)
+  itself-is : Is (coordinateLimit ^ 1) (power x 1) (back x)
   unfolding power
   itself-is = rw (mul-one x) (record { is = holds s coordinate-word .is; size = rw mul-one at (size-power s 1) })
 
   -- one power more
-  module _ (k : ℕ) (l : k < degreeLimit) {r : ℤ} (i : Is (coordinateLimit ^ k) (power x k) r) where
-    next-bound : coordinateLimit * coordinateLimit ^ k ≤ 2 ^ 63 - 1
-    next-bound = subst (λ (m : ℕ). m ≤ 2 ^ 63 - 1) (pow-succ' coordinateLimit k) (power-word (suc k) l)
-
-    pub power-fits : SFits w64 (back x *ℤ r)
-    power-fits = fits-mul (holds s coordinate-word) i next-bound
-
-    pub power-next : Is (coordinateLimit ^ suc k) (power x (suc k)) (back (back x *ℤ r))
-    unfolding power
-    power-next = rw (pow-succ' coordinateLimit k) (holds-mul (holds s coordinate-word) i next-bound)
-
-  pub square-is : Is (coordinateLimit ^ 2) (power x 2) (back (back x *ℤ back x))
-  unfolding degreeLimit
-  square-is = power-next 1 (lit< tt) itself-is
-
-  pub square-fits : SFits w64 (back x *ℤ back x)
-  unfolding degreeLimit
-  square-fits = power-fits 1 (lit< tt) itself-is
-
-  pub cube-is : Is (coordinateLimit ^ 3) (power x 3) (back (back x *ℤ back (back x *ℤ back x)))
-  unfolding degreeLimit
-  cube-is = power-next 2 (lit< tt) square-is
-
-  pub cube-fits : SFits w64 (back x *ℤ back (back x *ℤ back x))
-  unfolding degreeLimit
-  cube-fits = power-fits 2 (lit< tt) square-is
-
-  pub fourth-is : Is (coordinateLimit ^ 4) (power x 4) (back (back x *ℤ back (back x *ℤ back (back x *ℤ back x))))
-  unfolding degreeLimit
-  fourth-is = power-next 3 (lit< tt) cube-is
-
-  pub fourth-fits : SFits w64 (back x *ℤ back (back x *ℤ back (back x *ℤ back x)))
-  unfolding degreeLimit
-  fourth-fits = power-fits 3 (lit< tt) cube-is
+  power-next : (k : ℕ) → suc k ≤ degreeLimit → {r : ℤ} → Is (coordinateLimit ^ k) (power x k) r
+      → Computed (coordinateLimit ^ suc k) (power x (suc k)) (back x *ℤ r)
+  unfolding power
+  power-next k l i =
+      let bound = subst (λ (m : ℕ). m ≤ 2 ^ 63 - 1) (pow-succ' coordinateLimit k) (power-word (suc k) l) in
+      let itself = holds s coordinate-word in
+      (fits-mul itself i bound, rw (pow-succ' coordinateLimit k) (holds-mul itself i bound))
 
   -- the entries as the code multiplies them
   abbrev square : ℤ
-  square = back (back x *ℤ back x)
+  square = back x *ℤ back x
 
   abbrev cube : ℤ
-  cube = back (back x *ℤ square)
+  cube = back x *ℤ back square
+
+  abbrev fourth : ℤ
+  fourth = back x *ℤ back cube
+
+  pub square-is : Computed (coordinateLimit ^ 2) (power x 2) square
+  unfolding degreeLimit
+  square-is = power-next 1 (lit≤ tt) itself-is
+
+  pub cube-is : Computed (coordinateLimit ^ 3) (power x 3) cube
+  unfolding degreeLimit
+  cube-is = power-next 2 (lit≤ tt) (square-is .1)
+
+  pub fourth-is : Computed (coordinateLimit ^ 4) (power x 4) fourth
+  unfolding degreeLimit
+  fourth-is = power-next 3 (lit≤ tt) (cube-is .1)
 
   abbrev table : List ℤ
-  table = pos 1 ∷ back x ∷ square ∷ cube ∷ back (back x *ℤ cube) ∷ []
+  table = pos 1 ∷ back x ∷ back square ∷ back cube ∷ back fourth ∷ []
 
   pub powers-of : PowersOf x table
   powers-of = record { count = refl; power-at = at }
@@ -109,9 +98,9 @@ module _ {x : ℤ} (s : Size coordinateLimit x) where
           → Is (coordinateLimit ^ e) (power x e) (getD table e 0ℤ)
       at zero l = one-is
       at (suc zero) l = itself-is
-      at (suc (suc zero)) l = square-is
-      at (suc (suc (suc zero))) l = cube-is
-      at (suc (suc (suc (suc zero)))) l = fourth-is
+      at (suc (suc zero)) l = square-is .1
+      at (suc (suc (suc zero))) l = cube-is .1
+      at (suc (suc (suc (suc zero)))) l = fourth-is .1
       at (suc (suc (suc (suc (suc e))))) l = absurd (omega (arith, degree-limit))
 
 -- the entry 1 of the powers of x is x

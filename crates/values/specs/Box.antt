@@ -1,6 +1,6 @@
 -- The box, axis by axis, and the vertices that lie in the box of a job.
 use Prim.Native.Nat.{ℕ, _<_}
-use mathlib.Core.Bool.{Bool, _&&_}
+use mathlib.Core.Bool.{Bool, true, _&&_}
 use mathlib.Core.List.{List}
 use lib.IntN.{ℤ}
 use lib.Signed.{leZ}
@@ -8,10 +8,11 @@ use Rattle.exact.specs.Size.{Size}
 use Rattle.paper.specs.Limits.{coordinateLimit}
 use Rattle.paper.specs.Job.{lowEnd, highEnd}
 use Rattle.places.specs.declared.Vertex.{Vertex}
+use Rattle.places.specs.Held.{counted}
 
--- a coordinate lies from the low to the high end of axis a
-unfoldable pub axisInside : List ℕ → ℕ → ℤ → Bool
-axisInside b a x = leZ (lowEnd b a) x && leZ x (highEnd b a)
+-- a coordinate lies from the low to the high end of axis a; true from axis n on
+unfoldable pub axisInside : List ℕ → ℕ → ℕ → ℤ → Bool
+axisInside b n a x = counted true n a (leZ (lowEnd b a) x && leZ x (highEnd b a))
 
 -- the coordinates that count are within the limit of a box's ends
 pub record Near (n : ℕ) (v : Vertex) : Type 0 where

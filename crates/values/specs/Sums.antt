@@ -6,12 +6,13 @@ use mathlib.Core.Bool.{true}
 use mathlib.Core.List.{List, [], _∷_}
 use lib.IntN.{ℤ}
 use lib.ListN.{length, getD, take}
-use Rattle.exact.specs.Int.{power, 0ℤ}
+use Rattle.exact.specs.Int.{power, 0ℤ, 1ℤ}
 use Rattle.exact.specs.Size.{Is}
 use Rattle.curves.specs.Grid.{Vertex}
 use Rattle.paper.specs.Limits.{coordinateLimit, termLimit, coefficientLimit, degreeLimit}
-use Rattle.paper.specs.Job.{termCount, polynomialOk}
+use Rattle.paper.specs.Job.{termCount, exponentOf, polynomialOk}
 use Rattle.bits.specs.Axes.{Axes}
+use Rattle.places.specs.Held.{counted}
 
 -- the size of a term's product of powers, of a term, and of a sum of as many terms as a polynomial may have
 unfoldable pub monomialLimit : ℕ
@@ -48,3 +49,7 @@ pub record Tables (n : ℕ) (px py pz pw : List ℤ) : Type 0 where
 -- the vertex that they are of
 unfoldable pub tabled : ℕ → List ℤ → List ℤ → List ℤ → List ℤ → Vertex
 tabled n px py pz pw = take n (base px ∷ base py ∷ base pz ∷ base pw ∷ [])
+
+-- the power of an axis's coordinate in term i; 1 from axis n on
+unfoldable pub factorOn : ℕ → List ℕ → ℕ → ℕ → List ℤ → ℤ
+factorOn n b i a p = counted 1ℤ n a (power (base p) (exponentOf b i a))

@@ -1,6 +1,6 @@
 // Vertices: moved along the axes of a mask or along one axis, and tested against the box.
 ghost use mathlib.Core.Path.{_≡_};
-ghost use Prim.Native.Nat.{_+_, _*_, _%_, _<_};
+ghost use Prim.Native.Nat.{_+_, _*_, _%_};
 ghost use lib.IntN.{pos};
 ghost use lib.ListN.{length};
 ghost use Rattle.exact.specs.Int.{_⊕_};
@@ -57,11 +57,14 @@ pub fn moved(v: Vertex, axis: u64, d: i64) -> Vertex
     v
 }
 
-// A coordinate lies from the low to the high end of an axis, both ends included.
-fn axis_inside(bounds: &[u8], axis: usize, x: i64) -> bool
-    requires { ⌜ 4 * axis + 3 < length (now bounds) ⌝ }
-    ensures { λ r. ⌜ r ≡ axisInside (now (bounds .entry)) axis x ⌝ }
+// A coordinate lies from the low to the high end of an axis, both ends included; true from axis n on.
+fn axis_inside(bounds: &[u8], n: usize, axis: usize, x: i64) -> bool
+    requires { ⌜ length (now bounds) ≡ 4 * n ⌝ }
+    ensures { λ r. ⌜ r ≡ axisInside (now (bounds .entry)) n axis x ⌝ }
 {
+    if n <= axis {
+        return true;
+    }
     if read::signed_word(bounds, 4 * axis) <= x {
         return x <= read::signed_word(bounds, 4 * axis + 2);
     }
@@ -73,20 +76,14 @@ pub fn inside(bounds: &[u8], n: usize, v: Vertex) -> bool
     requires { ⌜ (Axes n) × (length (now bounds) ≡ 4 * n) ⌝ }
     ensures { λ r. ⌜ r ≡ insideFrom (now (bounds .entry)) 0 (vertexAs n v) ⌝ }
 {
-    if !axis_inside(bounds, 0, v.x) {
+    if !axis_inside(bounds, n, 0, v.x) {
         return false;
     }
-    if !axis_inside(bounds, 1, v.y) {
+    if !axis_inside(bounds, n, 1, v.y) {
         return false;
     }
-    if n == 2 {
-        return true;
-    }
-    if !axis_inside(bounds, 2, v.z) {
+    if !axis_inside(bounds, n, 2, v.z) {
         return false;
     }
-    if n == 3 {
-        return true;
-    }
-    axis_inside(bounds, 3, v.w)
+    axis_inside(bounds, n, 3, v.w)
 }

@@ -1,13 +1,12 @@
 // The exact sum of a polynomial at a vertex, term by term; the powers of the coordinates are taken from tables.
-ghost use Prim.Native.Nat.{_+_, _*_, _^_, _≤_, _<_};
-ghost use Rattle.exact.specs.Int.{power};
+ghost use Prim.Native.Nat.{_^_, _<_};
 ghost use Rattle.exact.specs.Size.{Size, Is};
-ghost use Rattle.paper.specs.Limits.{coordinateLimit, degreeLimit};
+ghost use Rattle.paper.specs.Limits.{coordinateLimit};
 ghost use Rattle.paper.specs.Job.{termCount, exponentOf};
 ghost use Rattle.paper.specs.Values.{monomial, termValue, rawSum};
 ghost use Rattle.places.specs.Held.{vertexAs};
 ghost use Rattle.values.specs.Box.{Near};
-ghost use Rattle.values.specs.Sums.{monomialLimit, termSize, sumLimit, Polynomial, PowersOf, base, Tables, tabled};
+ghost use Rattle.values.specs.Sums.{monomialLimit, termSize, sumLimit, Polynomial, PowersOf, base, Tables, tabled, factorOn};
 use bits::read;
 use places::Vertex;
 
@@ -25,12 +24,15 @@ fn powers(n: usize, axis: usize, x: i64) -> [i64; 5]
     [one, x, square, cube, x * cube]
 }
 
-// The power of one coordinate in term i.
-fn factor(body: &[u8], i: usize, axis: usize, p: &[i64; 5]) -> i64
-    requires { ⌜ (i < termCount (now body)) × (axis < 4) ⌝ }
-    requires { ⌜ (exponentOf (now body) i axis ≤ degreeLimit) × (PowersOf (base (now p)) (now p)) ⌝ }
-    ensures { λ r. ⌜ Is (coordinateLimit ^ exponentOf (now (body .entry)) i axis) (power (base (now (p .entry))) (exponentOf (now (body .entry)) i axis)) r ⌝ }
+// The power of one coordinate in term i; 1 from axis n on.
+fn factor(body: &[u8], n: usize, i: usize, axis: usize, p: &[i64; 5]) -> i64
+    requires { ⌜ (Polynomial n (now body)) × (i < termCount (now body)) ⌝ }
+    requires { ⌜ (axis < n → PowersOf (base (now p)) (now p)) ⌝ }
+    ensures { λ r. ⌜ Is (coordinateLimit ^ exponentOf (now (body .entry)) i axis) (factorOn n (now (body .entry)) i axis (now (p .entry))) r ⌝ }
 {
+    if n <= axis {
+        return 1;
+    }
     p[read::byte(body, 8 * i + 4 + axis) as usize]
 }
 
@@ -48,16 +50,11 @@ fn monomial(
     requires { ⌜ Tables n (now px) (now py) (now pz) (now pw) ⌝ }
     ensures { λ r. ⌜ Is monomialLimit (monomial (now (body .entry)) i 0 (tabled n (now (px .entry)) (now (py .entry)) (now (pz .entry)) (now (pw .entry)))) r ⌝ }
 {
-    let first = factor(body, i, 0, px);
-    let second = factor(body, i, 1, py);
-    if n == 2 {
-        return first * second;
-    }
-    let third = factor(body, i, 2, pz);
-    if n == 3 {
-        return first * (second * third);
-    }
-    first * (second * (third * factor(body, i, 3, pw)))
+    let first = factor(body, n, i, 0, px);
+    let second = factor(body, n, i, 1, py);
+    let third = factor(body, n, i, 2, pz);
+    let fourth = factor(body, n, i, 3, pw);
+    first * (second * (third * fourth))
 }
 
 // Term i at a vertex: the coefficient times the powers.

@@ -1,16 +1,27 @@
 // Readable sums and values: document 01, section "Crossed".
 ghost use mathlib.Core.Path.{_≡_};
 ghost use Rattle.exact.specs.Size.{Size};
+ghost use Rattle.paper.specs.Limits.{readableLimit};
 ghost use Rattle.paper.specs.Values.{readableSum, valueOf};
 ghost use Rattle.values.specs.Sums.{sumLimit};
 use bits::read;
 
-// A sum is readable from − 2 ^ 28 to 2 ^ 28, in every dimension.
+// The largest size of a readable sum: 2 ^ 19 in dimension 4, where determinants grow, and 2 ^ 28 below.
+fn readable_limit(n: usize) -> u64
+    ensures { λ r. ⌜ r ≡ readableLimit n ⌝ }
+{
+    if n == 4 {
+        return 524288;
+    }
+    268435456
+}
+
+// A sum is readable up to the limit in size.
 pub fn readable(n: usize, z: i64) -> bool
     requires { ⌜ Size sumLimit z ⌝ }
     ensures { λ r. ⌜ r ≡ readableSum n z ⌝ }
 {
-    read::size(z) <= 268435456
+    read::size(z) <= readable_limit(n)
 }
 
 // The value that judging, stepping and points go by: the sum itself.

@@ -16,6 +16,7 @@ struct OpenAnswer {
     n: u64,
     terms1: u64,
     terms2: u64,
+    terms3: u64,
 }
 
 #[repr(C)]
@@ -40,6 +41,7 @@ struct PointAnswer {
     x: i64,
     y: i64,
     z: i64,
+    w: i64,
 }
 
 #[repr(C)]
@@ -50,8 +52,10 @@ struct StepAnswer {
     x: i64,
     y: i64,
     z: i64,
+    w: i64,
     mask1: u64,
     mask2: u64,
+    mask3: u64,
     side: u64,
 }
 
@@ -125,6 +129,11 @@ fn mark(field: u64) -> bool {
     field == 1
 }
 
+/// The dimension of a job that opens.
+fn dimension(job: &[u8]) -> usize {
+    job[1] as usize
+}
+
 /// The first fields, with the others checked to be 0.
 fn used<T: PartialEq + Default>(count: usize, fields: &[T]) -> &[T] {
     let (used, rest) = fields.split_at(count);
@@ -141,8 +150,8 @@ impl Product for Library {
     #[inline]
     fn open(&self, job: &[u8]) -> Result<(usize, Vec<usize>), u8> {
         let a = unsafe { gethwapiko_open(job.as_ptr(), job.len()) };
-        let terms = [a.terms1, a.terms2];
-        refused(a.refusal, a.n == 0 && terms == [0; 2])?;
+        let terms = [a.terms1, a.terms2, a.terms3];
+        refused(a.refusal, a.n == 0 && terms == [0; 3])?;
         let counts = used(a.n as usize - 1, &terms);
         Ok((a.n as usize, counts.iter().map(|&count| count as usize).collect()))
     }
@@ -164,21 +173,20 @@ impl Product for Library {
     #[inline]
     fn point(&self, job: &[u8], place: &[u8]) -> Result<Vertex, u8> {
         let a = unsafe { gethwapiko_point(job.as_ptr(), job.len(), place.as_ptr(), place.len()) };
-        let steps = [a.x, a.y, a.z];
-        refused(a.refusal, steps == [0; 3])?;
-        Ok(vertex(&steps))
+        let steps = [a.x, a.y, a.z, a.w];
+        refused(a.refusal, steps == [0; 4])?;
+        Ok(vertex(used(dimension(job), &steps)))
     }
 
     #[inline]
     fn step(&self, job: &[u8], from: &[u8]) -> Result<Step, u8> {
         let a = unsafe { gethwapiko_step(job.as_ptr(), job.len(), from.as_ptr(), from.len()) };
-        let (lowest, masks) = ([a.x, a.y, a.z], [a.mask1, a.mask2]);
-        let no_place = (lowest, masks, a.side) == ([0; 3], [0; 2], 0);
+        let (lowest, masks) = ([a.x, a.y, a.z, a.w], [a.mask1, a.mask2, a.mask3]);
+        let no_place = (lowest, masks, a.side) == ([0; 4], [0; 3], 0);
         refused(a.refusal, a.outcome == 0 && no_place)?;
         match a.outcome {
             0 => {
-                // The job opens, so its dimension is in byte 1.
-                let n = job[1] as usize;
+                let n = dimension(job);
                 let masks = masks.map(|mask| u8::try_from(mask).expect("a mask"));
                 let side = mark(a.side) as u8;
                 Ok(Step::Next(place(used(n, &lowest), used(n - 1, &masks), side)))
@@ -213,6 +221,7 @@ impl Product for Library {
         let a = unsafe {
             gethwapiko_pen(job.as_ptr(), job.len(), places.as_ptr(), places.len(), closed, k)
         };
+        // Axes 1 to 3; the third is 0 in dimension 2.
         let at_zero = [a.x, a.y, a.z].iter().all(|x| x.to_bits() == 0);
         refused(a.refusal, a.kind == 0 && at_zero)?;
         // The floats are handed on as they are, so that a test can compare their bits.

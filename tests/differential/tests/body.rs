@@ -2,7 +2,7 @@
 
 use library::ffi::Library;
 use reference::generate::{any_job, JobTally, Random};
-use reference::limits::accepted;
+use reference::limits::DIMENSIONS;
 use reference::product::{Product, Reference};
 use reference::tally::Tally;
 
@@ -10,20 +10,21 @@ use reference::tally::Tally;
 fn body_is_the_reference() {
     let mut r = Random::new(12);
     let (mut made, mut answers) = (JobTally::default(), Tally::default());
-    for _ in 0..200_000 {
+    for _ in 0..300_000 {
         let job = any_job(&mut r);
-        let index = r.pick(&[0, 1, 2, 3, 3, 4, 5, 255, 256, 1 << 32, u64::MAX]);
+        let index = r.pick(&[0, 1, 2, 3, 3, 4, 4, 5, 6, 255, 256, 1 << 32, u64::MAX]);
         let wanted = Reference.body(&job.bytes, index);
         assert_eq!(Library.body(&job.bytes, index), wanted, "{index} of {:?}", job.bytes);
         if let Ok((offset, length)) = wanted {
             assert!(length > 0 && offset + length <= job.bytes.len());
         }
+        answers.count(job.n(), wanted.map(|_| index));
         made.count(&job);
-        answers.count(wanted.map(|_| index));
     }
     made.assert_all();
-    // Box, polynomials and start of the largest dimension; 1 to 8 of Open, and Body's own 12.
-    let largest = accepted().into_iter().max().expect("a dimension") as u64;
-    let indices = (0..=largest).map(Ok);
-    answers.assert_met(&indices.chain((1..=8).chain([12]).map(Err)).collect::<Vec<_>>());
+    // Box, polynomials and start; 1 to 8 of Open, and Body's own 12.
+    for n in DIMENSIONS {
+        let indices = (0..=n as u64).map(Ok);
+        answers.assert_met_in(n, &indices.chain((1..=8).chain([12]).map(Err)).collect::<Vec<_>>());
+    }
 }

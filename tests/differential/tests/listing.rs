@@ -4,11 +4,12 @@ use std::io::{Read, Write};
 use std::path::PathBuf;
 use std::process::{Command, Stdio};
 
-use reference::build::case_a;
+use library::on_places::and_those_of_open;
+use reference::build::{case_a, case_c, gathered, place, power_of, term, Parts};
 use reference::generate::{any_job, valid, JobTally, Random};
 use reference::listing::listing;
-use reference::marked::CASE_A_LISTING;
-use reference::tally::Tally;
+use reference::marked::{CASE_A_LISTING, CASE_C_4_LISTING};
+use reference::tally::{Answer, Tally};
 
 /// The program; the test fails if it has not been built.
 fn program() -> PathBuf {
@@ -33,8 +34,9 @@ fn printed(job: &[u8]) -> String {
 }
 
 #[test]
-fn case_a_and_lengths() {
+fn cases_and_lengths() {
     assert_eq!(printed(&case_a().bytes()), CASE_A_LISTING);
+    assert_eq!(printed(&case_c(4).bytes()), CASE_C_4_LISTING);
     for length in [0, 1, 3, 4, 2047, 2048, 2049, 4096, 70_000] {
         for first in [0, 1] {
             let mut job = vec![0; length];
@@ -64,29 +66,66 @@ fn examples() {
     assert!(count > 0);
 }
 
+/// A straight line across the largest box of dimension 4 has more places than the space holds.
+#[test]
+fn a_trace_longer_than_the_space() {
+    let sum = |axis: usize| [axis, axis + 1].map(|a| term(1, &power_of(a, 1)));
+    let line = Parts {
+        ends: vec![(-256, 256); 4],
+        polynomials: (1..4).map(|axis| gathered(&sum(axis))).collect(),
+        start: place(&[250, -250, 250, -250], &[1, 3, 7], 0),
+        ..case_c(4)
+    };
+    let text = printed(&line.bytes());
+    assert_eq!(text.lines().next(), Some("4 full 4096"));
+    assert!(text == listing(&line.bytes()));
+}
+
+/// What a listing says in its first line: the refusal or the verdict.
+fn answer(text: &str) -> Answer {
+    let words: Vec<&str> = text.lines().next().expect("a line").split(' ').collect();
+    match words[..] {
+        ["refused", number] => Err(number.parse().expect("a number")),
+        [_, verdict, _] => {
+            let known = ["loop", "edge", "limit", "full"].into_iter().find(|v| *v == verdict);
+            Ok(known.expect("a verdict"))
+        }
+        _ => panic!("{text}"),
+    }
+}
+
 #[test]
 fn listing_is_the_reference() {
     let mut r = Random::new(23);
     let (mut made, mut kinds) = (JobTally::default(), Tally::default());
     let mut jobs = Vec::new();
-    for _ in 0..5_000 {
+    for _ in 0..6_000 {
         let job = any_job(&mut r);
         made.count(&job);
-        jobs.push(job.bytes);
+        jobs.push((job.n(), job.bytes));
         let (kind, parts) = valid(&mut r);
-        kinds.count(kind);
-        jobs.push(parts.bytes());
+        kinds.count(parts.n, kind);
+        jobs.push((parts.n, parts.bytes()));
     }
     made.assert_all();
     kinds.assert_all();
     // Most of the time goes into starting the program, so a few are started side by side.
+    let compare = |(n, job): &(usize, Vec<u8>)| {
+        let wanted = listing(job);
+        assert_eq!(printed(job), wanted, "{job:?}");
+        (*n, answer(&wanted))
+    };
+    let mut answers = Tally::default();
     std::thread::scope(|scope| {
-        for part in jobs.chunks(jobs.len() / 4) {
-            scope.spawn(move || {
-                for job in part {
-                    assert_eq!(printed(job), listing(job), "{job:?}");
-                }
-            });
+        let parts = jobs.chunks(jobs.len() / 4);
+        let compare_all = |part: &[_]| part.iter().map(compare).collect::<Vec<_>>();
+        let threads: Vec<_> = parts.map(|part| scope.spawn(move || compare_all(part))).collect();
+        for thread in threads {
+            for (n, answer) in thread.join().expect("no difference") {
+                answers.count(n, answer);
+            }
         }
     });
+    let own = [Err(9), Err(10), Err(11), Ok("loop"), Ok("edge"), Ok("limit")];
+    answers.assert_includes(&and_those_of_open(&own));
 }

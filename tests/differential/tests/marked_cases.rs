@@ -1,4 +1,4 @@
-//! Cases A to J and the wrong turns on the proved library.
+//! Cases A to J, their like in dimension 4 and the wrong turns on the proved library.
 
 use library::ffi::Library;
 use reference::marked;
@@ -6,6 +6,11 @@ use reference::marked;
 #[test]
 fn cases_a_to_j() {
     marked::cases(&Library);
+}
+
+#[test]
+fn dimension_4() {
+    marked::dimension_4(&Library);
 }
 
 #[test]

@@ -1,41 +1,62 @@
 //! Open against the reference.
 
 use library::ffi::Library;
-use reference::build::{case_a, case_c};
+use reference::build::{assemble, case_a, case_c, exponents};
 use reference::generate::{any_job, JobTally, Random};
-use reference::limits::accepted;
+use reference::limits::{Limits, DIMENSIONS};
 use reference::product::{Product, Reference};
-use reference::tally::Tally;
+use reference::tally::{Answer, Tally};
+
+/// Compares the two answers; gives what they are.
+fn compare(job: &[u8]) -> Answer {
+    let wanted = Reference.open(job);
+    assert_eq!(Library.open(job), wanted, "{job:?}");
+    wanted.map(|_| "opens")
+}
 
 #[test]
 fn open_is_the_reference() {
     let mut r = Random::new(11);
     let (mut made, mut answers) = (JobTally::default(), Tally::default());
-    for _ in 0..200_000 {
+    for _ in 0..300_000 {
         let job = any_job(&mut r);
-        let wanted = Reference.open(&job.bytes);
-        assert_eq!(Library.open(&job.bytes), wanted, "{:?}", job.bytes);
+        answers.count(job.n(), compare(&job.bytes));
         made.count(&job);
-        answers.count(wanted.map(|(n, _)| n));
     }
     made.assert_all();
-    let dimensions = accepted().into_iter().map(Ok);
-    answers.assert_met(&dimensions.chain((1..=8).map(Err)).collect::<Vec<_>>());
+    answers.assert_met(&(1..=8).map(Err).chain([Ok("opens")]).collect::<Vec<_>>());
 }
 
 /// Every length of a valid job's beginning, and every single byte of it at each of its values.
 #[test]
 fn every_cut_and_every_byte() {
-    for parts in [case_a(), case_c()] {
+    for parts in [case_a(), case_c(3), case_c(4)] {
         let job = parts.bytes();
         for cut in 0..job.len() {
-            assert_eq!(Library.open(&job[..cut]), Reference.open(&job[..cut]), "cut at {cut}");
+            _ = compare(&job[..cut]);
         }
         for at in 0..job.len() {
             let mut changed = job.clone();
             for byte in 0..=255 {
                 changed[at] = byte;
-                assert_eq!(Library.open(&changed), Reference.open(&changed), "{at}: {byte}");
+                _ = compare(&changed);
+            }
+        }
+    }
+}
+
+/// Every count of terms up to one more than any dimension has, in each polynomial.
+#[test]
+fn every_count_of_terms() {
+    for n in DIMENSIONS {
+        for k in 1..n {
+            for count in 0..=71 {
+                let mut bodies = case_c(n).bodies();
+                let terms = exponents(n).iter().cycle().take(count);
+                bodies[k] = terms.flat_map(|e| [[1, 0, 0, 0], *e].concat()).collect();
+                let opens = (1..=Limits::of(n).terms).contains(&count);
+                let wanted = if opens { Ok("opens") } else { Err(5) };
+                assert_eq!(compare(&assemble(n, &bodies)), wanted, "{count} terms");
             }
         }
     }

@@ -40,24 +40,26 @@ fn pen_is_the_reference() {
     let mut r = Random::new(22);
     let (mut jobs, mut made) = (JobTally::default(), PlaceTally::default());
     let mut answers: Tally<Answer> = Tally::default();
-    for _ in 0..30_000 {
+    for _ in 0..60_000 {
         let (_, parts) = valid(&mut r);
-        let mut job = parts.bytes();
-        if r.once_in(10) {
+        let (mut n, mut job) = (parts.n, parts.bytes());
+        if r.once_in(5) {
             let other = any_job(&mut r);
             jobs.count(&other);
-            job = other.bytes;
+            (n, job) = (other.n(), other.bytes);
         }
         let places = some_places(&mut r, &parts, &mut made);
         let m = (places.len() / (3 * parts.n)) as u64;
         for _ in 0..5 {
             // Large ones too, which times 3n leave 64 bits or come close to that.
-            let k = r.pick(&[0, 1, m, m.max(1) - 1, m + 1, 2, 1 << 32, u64::MAX, u64::MAX / 6]);
+            let close = u64::MAX / (3 * n as u64);
+            let far = r.pick(&[1 << 32, u64::MAX, close, close + 1]);
+            let k = r.pick(&[0, 1, m, m.max(1) - 1, m + 1, 2, far]);
             let closed = r.once_in(2);
             let wanted = bits(&Reference.pen(&job, &places, closed, k));
             let found = bits(&Library.pen(&job, &places, closed, k));
             assert_eq!(found, wanted, "{k} {closed} of {places:?} in {job:?}");
-            answers.count(wanted.map(|(name, _)| name));
+            answers.count(n, wanted.map(|(name, _)| name));
         }
     }
     jobs.assert_all();

@@ -44,14 +44,14 @@ fn trace_is_the_reference() {
         let (kind, parts) = valid(&mut r);
         let job = parts.bytes();
         let size = 3 * parts.n;
-        kinds.count(kind);
+        kinds.count(parts.n, kind);
         // Space enough for most traces first; then one length around the count.
         let answer = compare(&mut r, &job, size * 150);
-        with_space.count(name(answer));
+        with_space.count(parts.n, name(answer));
         let count = answer.map_or(0, |(_, count)| count);
         let space = r.pick(&[0, 1, count.max(1) - 1, count, count + 1, count + 7]).min(20);
         let length = size * space + r.pick(&[0, 0, 1, size - 1]);
-        around.count(name(compare(&mut r, &job, length)));
+        around.count(parts.n, name(compare(&mut r, &job, length)));
     }
     kinds.assert_all();
     with_space.assert_met(&OWN);
@@ -63,14 +63,14 @@ fn trace_is_the_reference() {
 fn each_space_around_the_count() {
     let mut r = Random::new(20);
     let mut answers: Tally<Answer> = Tally::default();
-    for _ in 0..2_000 {
+    for _ in 0..8_000 {
         let (_, parts) = valid(&mut r);
         let job = parts.bytes();
         let size = 3 * parts.n;
         let count = compare(&mut r, &job, size * 100).map_or(0, |(_, count)| count);
         for space in [0, 1, count.max(1) - 1, count, count + 1, count + 5] {
             for more in [0, 1, size - 1] {
-                answers.count(name(compare(&mut r, &job, size * space + more)));
+                answers.count(parts.n, name(compare(&mut r, &job, size * space + more)));
             }
         }
     }
@@ -82,10 +82,10 @@ fn each_space_around_the_count() {
 fn trace_opens_first() {
     let mut r = Random::new(21);
     let (mut made, mut answers) = (JobTally::default(), Tally::default());
-    for _ in 0..50_000 {
+    for _ in 0..100_000 {
         let job = any_job(&mut r);
         let length = r.index(200);
-        answers.count(name(compare(&mut r, &job.bytes, length)));
+        answers.count(job.n(), name(compare(&mut r, &job.bytes, length)));
         made.count(&job);
     }
     made.assert_all();

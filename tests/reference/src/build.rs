@@ -143,13 +143,15 @@ pub fn case_a() -> Parts {
     }
 }
 
-/// Case C of the paper.
-pub fn case_c() -> Parts {
+/// Case C of the paper for n = 3, and its like in another dimension: polynomial k is axis k, and
+/// the masks of the start are 1, 3, .., each with one axis more.
+pub fn case_c(n: usize) -> Parts {
+    let masks: Vec<u8> = (1..n).map(|k| (1 << k) - 1).collect();
     Parts {
-        n: 3,
-        ends: vec![(0, 1), (0, 1), (0, 1)],
-        polynomials: vec![vec![term(1, &[1, 0, 0])], vec![term(1, &[0, 1, 0])]],
-        start: place(&[0, 0, 0], &[1, 3], 0),
+        n,
+        ends: vec![(0, 1); n],
+        polynomials: (1..n).map(|axis| vec![term(1, &power_of(axis, 1))]).collect(),
+        start: place(&vec![0; n], &masks, 0),
     }
 }
 

@@ -1,60 +1,82 @@
-//! Joined facets and the curve of a facet, by brute force over the box: every readable simplex
-//! is looked at once, with no use of Step or Trace.
+//! Joined facets and the curve of a facet, by brute force over the box: every vertex, every facet
+//! and every simplex is looked at once, with no use of Step or Trace.
 
 use std::collections::{HashMap, HashSet};
 
 use crate::cartesian::cartesian;
+use crate::crossed::{column, is_crossed, Column};
 use crate::grid::{chains, orders, Facet, Place, Simplex, Vertex};
 use crate::job::Job;
-use crate::operations::{facet_is_crossed, look, Look};
+use crate::limits::{Limits, MOST};
 
 /// Every lattice vertex of the box.
 pub fn vertices_of_box(job: &Job) -> Vec<Vertex> {
     cartesian(&job.ends.iter().map(|&(low, high)| (low..=high).collect()).collect::<Vec<_>>())
 }
 
-/// Every crossed facet of the box with readable values.
-pub fn crossed_facets(job: &Job) -> Vec<Facet> {
-    let mut all = Vec::new();
-    for lowest in vertices_of_box(job) {
-        for &masks in chains(job.n) {
-            let facet = Facet { n: job.n, lowest, masks };
-            if facet_is_crossed(job, &facet) {
-                all.push(facet);
-            }
-        }
-    }
-    all
-}
-
 /// The crossed facets of a box, each with those that share a readable simplex with it.
 pub struct Joints {
+    n: usize,
+    /// The vertices of the box with readable values.
+    readable: HashMap<Vertex, Column>,
     shares: HashMap<Facet, Vec<Facet>>,
 }
 
 impl Joints {
     pub fn of(job: &Job) -> Joints {
-        let mut shares: HashMap<Facet, Vec<Facet>> = HashMap::new();
-        for facet in crossed_facets(job) {
-            shares.insert(facet, Vec::new());
-        }
-        for corner in vertices_of_box(job) {
-            for order in orders(job.n) {
-                let simplex = Simplex { corner, order };
-                if let Look::Readable(crossed) = look(job, &simplex) {
-                    assert!(crossed.is_empty() || crossed.len() == 2, "no crossed facet or two");
-                    for &i in &crossed {
-                        for &k in &crossed {
-                            if i != k {
-                                let entry = shares.get_mut(&simplex.facet(i));
-                                entry.expect("a crossed facet").push(simplex.facet(k));
-                            }
-                        }
-                    }
+        let vertices = vertices_of_box(job);
+        let limits = Limits::of(job.n);
+        let with_column = vertices.iter().map(|v| (*v, column(&job.polynomials, v)));
+        let readable = with_column
+            .filter(|(_, column)| column[1..job.n].iter().all(|&value| limits.is_readable(value)));
+        let mut joints = Joints { n: job.n, readable: readable.collect(), shares: HashMap::new() };
+        for &lowest in &vertices {
+            for &masks in chains(job.n) {
+                let facet = Facet { n: job.n, lowest, masks };
+                if joints.is_crossed(&facet) {
+                    joints.shares.insert(facet, Vec::new());
                 }
             }
         }
-        Joints { shares }
+        for &corner in &vertices {
+            for order in orders(job.n) {
+                joints.join(&Simplex { corner, order });
+            }
+        }
+        joints
+    }
+
+    /// Whether the facet lies in the box with readable values and is crossed.
+    fn is_crossed(&self, facet: &Facet) -> bool {
+        let mut columns = [[0; MOST]; MOST];
+        for (here, v) in columns.iter_mut().zip(&facet.vertices()[..self.n]) {
+            match self.readable.get(v) {
+                Some(column) => *here = *column,
+                None => return false,
+            }
+        }
+        is_crossed(&columns[..self.n])
+    }
+
+    fn is_readable(&self, simplex: &Simplex) -> bool {
+        simplex.vertices()[..=self.n].iter().all(|v| self.readable.contains_key(v))
+    }
+
+    /// Joins the two crossed facets of a readable simplex, if it has any.
+    fn join(&mut self, simplex: &Simplex) {
+        if !self.is_readable(simplex) {
+            return;
+        }
+        let facets = (0..=self.n).map(|i| simplex.facet(i));
+        let crossed: Vec<Facet> = facets.filter(|f| self.shares.contains_key(f)).collect();
+        match crossed[..] {
+            [] => {}
+            [one, other] => {
+                self.shares.entry(one).or_default().push(other);
+                self.shares.entry(other).or_default().push(one);
+            }
+            _ => panic!("a simplex has no crossed facet or two"),
+        }
     }
 
     /// The curve of a crossed facet: all the facets joined to it.
@@ -86,14 +108,11 @@ impl Joints {
         }
         all
     }
-}
 
-/// Whether, for each facet of the curve, the simplices on both its sides are readable.
-pub fn closes(job: &Job, curve: &HashSet<Facet>) -> bool {
-    curve.iter().all(|&facet| {
-        (0..2).all(|side| {
-            let (simplex, _) = Place { facet, side }.simplex();
-            matches!(look(job, &simplex), Look::Readable(_))
-        })
-    })
+    /// Whether, for each facet of the curve, the simplices on both its sides are readable.
+    pub fn closes(&self, curve: &HashSet<Facet>) -> bool {
+        curve
+            .iter()
+            .all(|&facet| (0..2).all(|side| self.is_readable(&Place { facet, side }.simplex().0)))
+    }
 }

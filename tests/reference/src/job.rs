@@ -2,9 +2,7 @@
 
 use crate::crossed::Term;
 use crate::grid::Place;
-use crate::limits::{
-    dimension_ok, Limits, LARGEST_COEFFICIENT, LARGEST_COORDINATE, LARGEST_DEGREE,
-};
+use crate::limits::{Limits, DIMENSIONS, LARGEST_COEFFICIENT, LARGEST_COORDINATE, LARGEST_DEGREE};
 
 /// What Open finds in the bytes of a job.
 #[derive(Clone, Debug)]
@@ -104,7 +102,7 @@ pub fn open(job: &[u8]) -> Result<Job, u8> {
     }
     // 3: dimension.
     let n = job[1] as usize;
-    if !dimension_ok(n) {
+    if !DIMENSIONS.contains(&n) {
         return Err(3);
     }
     // 4: entry count.

@@ -6,22 +6,20 @@ pub const MOST: usize = 4;
 /// The limits of a dimension.
 pub struct Limits {
     pub n: usize,
-    /// Whether Open accepts the dimension.
-    pub accepted: bool,
     /// The most terms of a polynomial.
     pub terms: usize,
     /// A value is readable from minus this to this.
     pub readable: i128,
 }
 
-/// A row for each dimension. Dimension 4 is described and not yet accepted.
+/// A row for each dimension.
 const TABLE: [Limits; 3] = [
-    Limits { n: 2, accepted: true, terms: 15, readable: 268_435_456 },
-    Limits { n: 3, accepted: true, terms: 35, readable: 268_435_456 },
-    Limits { n: 4, accepted: false, terms: 70, readable: 524_288 },
+    Limits { n: 2, terms: 15, readable: 268_435_456 },
+    Limits { n: 3, terms: 35, readable: 268_435_456 },
+    Limits { n: 4, terms: 70, readable: 524_288 },
 ];
 
-/// The dimensions of the table, accepted or not.
+/// The dimensions of the table: those that Open accepts.
 pub const DIMENSIONS: [usize; TABLE.len()] = [TABLE[0].n, TABLE[1].n, TABLE[2].n];
 
 impl Limits {
@@ -33,16 +31,6 @@ impl Limits {
     pub fn is_readable(&self, value: i128) -> bool {
         -self.readable <= value && value <= self.readable
     }
-}
-
-/// Whether Open accepts the dimension.
-pub fn dimension_ok(n: usize) -> bool {
-    TABLE.iter().any(|row| row.n == n && row.accepted)
-}
-
-/// The dimensions that Open accepts.
-pub fn accepted() -> Vec<usize> {
-    DIMENSIONS.into_iter().filter(|&n| dimension_ok(n)).collect()
 }
 
 /// The largest size of a coefficient.

@@ -1,6 +1,7 @@
-//! "Marked cases" A to J and the wrong turns, as checks of any product.
+//! "Marked cases" A to J, their like in dimension 4, and the wrong turns, as checks of any product.
 
-use crate::build::{case_a, case_c, place, term, Parts};
+use crate::build::{case_a, case_c, exponents, place, term, Parts};
+use crate::crossed::Term;
 use crate::grid::{vertex, Place};
 use crate::operations::{Move, Step, Verdict};
 use crate::product::Product;
@@ -35,6 +36,15 @@ pub const CASE_A_LISTING: &str = "2 loop 6
 0 -1 2 0 -512
 ";
 
+/// What the listing prints for case C in dimension 4.
+pub const CASE_C_4_LISTING: &str = "4 edge 5
+0 0 0 0 1 3 7 0 0 0 0
+0 0 0 0 1 3 15 0 0 0 0
+0 0 0 0 1 11 15 0 0 0 0
+0 0 0 0 9 11 15 0 0 0 0
+0 0 0 1 1 3 7 0 0 0 1024
+";
+
 /// What the bytes past the last place hold before and after.
 const PATTERN: u8 = 0xa5;
 
@@ -47,6 +57,19 @@ fn traced(p: &dyn Product, job: &[u8], n: usize, space: usize) -> (Verdict, Vec<
     assert!(buffer[size * count..].iter().all(|&b| b == PATTERN));
     let read = |k: usize| Place::read(n, &buffer[size * k..size * (k + 1)]).expect("a place");
     (verdict, (0..count).map(read).collect())
+}
+
+/// The job's trace has these places with these points and ends at the edge.
+fn assert_to_the_edge(p: &dyn Product, parts: &Parts, expected: &[(Place, &[i64])]) {
+    let job = parts.bytes();
+    let (verdict, places) = traced(p, &job, parts.n, 9);
+    assert_eq!((verdict, places.len()), (Verdict::Edge, expected.len()));
+    for (k, (wanted, steps)) in expected.iter().enumerate() {
+        assert_eq!(places[k], *wanted);
+        assert_eq!(p.point(&job, &wanted.bytes()), Ok(vertex(steps)));
+        let next = expected.get(k + 1).map_or(Step::Edge, |(place, _)| Step::Next(*place));
+        assert_eq!(p.step(&job, &wanted.bytes()), Ok(next));
+    }
 }
 
 /// Cases A to J.
@@ -79,21 +102,14 @@ pub fn cases(p: &dyn Product) {
     assert_eq!(traced(p, &a, 2, 5), (Verdict::Full, places[..5].to_vec()));
     assert_eq!(traced(p, &a, 2, 0), (Verdict::Full, vec![]));
     // C: four places, then the edge.
-    let c = case_c();
-    let expected = [
-        (place(&[0, 0, 0], &[1, 3], 0), [0, 0, 0]),
-        (place(&[0, 0, 0], &[1, 7], 1), [0, 0, 0]),
-        (place(&[0, 0, 0], &[5, 7], 1), [0, 0, 0]),
-        (place(&[0, 0, 1], &[1, 3], 0), [0, 0, 1024]),
+    let c = case_c(3);
+    let expected: [(Place, &[i64]); 4] = [
+        (place(&[0, 0, 0], &[1, 3], 0), &[0, 0, 0]),
+        (place(&[0, 0, 0], &[1, 7], 1), &[0, 0, 0]),
+        (place(&[0, 0, 0], &[5, 7], 1), &[0, 0, 0]),
+        (place(&[0, 0, 1], &[1, 3], 0), &[0, 0, 1024]),
     ];
-    let (verdict, places) = traced(p, &c.bytes(), 3, 9);
-    assert_eq!((verdict, places.len()), (Verdict::Edge, 4));
-    for (k, (wanted, steps)) in expected.iter().enumerate() {
-        assert_eq!(places[k], *wanted);
-        assert_eq!(p.point(&c.bytes(), &wanted.bytes()), Ok(vertex(steps)));
-        let next = expected.get(k + 1).map_or(Step::Edge, |(place, _)| Step::Next(*place));
-        assert_eq!(p.step(&c.bytes(), &wanted.bytes()), Ok(next));
-    }
+    assert_to_the_edge(p, &c, &expected);
     // D: C's start with side 1.
     let d = Parts { start: c.start.turned(), ..c.clone() };
     assert_eq!(traced(p, &d.bytes(), 3, 9), (Verdict::Edge, vec![d.start]));
@@ -121,6 +137,131 @@ pub fn cases(p: &dyn Product) {
     assert_eq!(p.open(&j.bytes()), Err(6));
 }
 
+/// Request 2.12: dimension 4.
+pub fn dimension_4(p: &dyn Product) {
+    // Five contents entries, 12-byte places.
+    let c = case_c(4);
+    assert_eq!(p.open(&c.bytes()), Ok((4, vec![1, 1, 1])));
+    let bodies: Vec<_> = (0..6).map(|k| p.body(&c.bytes(), k)).collect();
+    assert_eq!(
+        bodies,
+        [Ok((24, 16)), Ok((40, 8)), Ok((48, 8)), Ok((56, 8)), Ok((64, 12)), Err(12)]
+    );
+    assert_eq!(c.bytes().len(), 76);
+    for (length, answer) in [(9, Err(13)), (11, Err(13)), (12, Ok(true)), (13, Err(13))] {
+        let mut bytes = c.start.bytes();
+        bytes.resize(length, 0);
+        assert_eq!(p.judge(&c.bytes(), &bytes), answer, "{length}");
+    }
+    // Case C goes up along axis 4, and with side 1 it is at the edge at once.
+    let expected: [(Place, &[i64]); 5] = [
+        (place(&[0, 0, 0, 0], &[1, 3, 7], 0), &[0, 0, 0, 0]),
+        (place(&[0, 0, 0, 0], &[1, 3, 15], 1), &[0, 0, 0, 0]),
+        (place(&[0, 0, 0, 0], &[1, 11, 15], 1), &[0, 0, 0, 0]),
+        (place(&[0, 0, 0, 0], &[9, 11, 15], 1), &[0, 0, 0, 0]),
+        (place(&[0, 0, 0, 1], &[1, 3, 7], 0), &[0, 0, 0, 1024]),
+    ];
+    assert_to_the_edge(p, &c, &expected);
+    let d = Parts { start: c.start.turned(), ..c.clone() };
+    assert_eq!(traced(p, &d.bytes(), 4, 9), (Verdict::Edge, vec![d.start]));
+    let e = place(&[0, 0, 0, 0], &[2, 3, 7], 0);
+    assert_eq!(p.judge(&c.bytes(), &e.bytes()), Ok(false));
+    // Case A's circle with z and w is a loop of 14; with space for 13 it is full.
+    let circle = Parts {
+        n: 4,
+        ends: vec![(-1, 1); 4],
+        polynomials: vec![
+            case_a().polynomials[0].clone(),
+            vec![term(1, &[0, 0, 1])],
+            vec![term(1, &[0, 0, 0, 1])],
+        ],
+        start: place(&[0, 0, 0, 0], &[1, 5, 13], 0),
+    };
+    let (verdict, places) = traced(p, &circle.bytes(), 4, 14);
+    assert_eq!((verdict, places.len()), (Verdict::Loop, 14));
+    assert_eq!(traced(p, &circle.bytes(), 4, 13), (Verdict::Full, places[..13].to_vec()));
+    limits_of_dimension_4(p);
+    pen_in_dimension_4(p);
+}
+
+/// The pen shows axes 1 to 3 of the points (1/2, 1/2, 1/2, w).
+fn pen_in_dimension_4(p: &dyn Product) {
+    let mut upright = case_c(4);
+    for polynomial in &mut upright.polynomials {
+        *polynomial = vec![term(-1, &[]), Term { coefficient: 2, ..polynomial[0] }];
+    }
+    let job = upright.bytes();
+    let (verdict, places) = traced(p, &job, 4, 20);
+    assert_eq!((verdict, places.len()), (Verdict::Edge, 5));
+    let written: Vec<u8> = places.iter().flat_map(|place| place.bytes()).collect();
+    for (k, w) in [0, 512, 512, 512, 1024].into_iter().enumerate() {
+        assert_eq!(p.point(&job, &places[k].bytes()), Ok([512, 512, 512, w]));
+        let at = [0.5; 3];
+        let wanted = if k == 0 { Move::Lift(at) } else { Move::Draw(at) };
+        assert_eq!(p.pen(&job, &written, true, k as u64), Ok(wanted));
+    }
+    assert_eq!(p.pen(&job, &written, true, 5), Ok(Move::Close));
+}
+
+/// Refusals 3, 5, 7 and 10 as request 2.12 amends them.
+fn limits_of_dimension_4(p: &dyn Product) {
+    // 3: dimensions 2 to 4.
+    for byte in 0..=255 {
+        let mut job = case_c(4).bytes();
+        job[1] = byte;
+        let wanted = match byte {
+            4 => Ok(4),
+            2 | 3 => Err(4),
+            _ => Err(3),
+        };
+        assert_eq!(p.open(&job).map(|(n, _)| n), wanted, "{byte}");
+    }
+    // 5: up to 70 terms.
+    for k in 0..3 {
+        let mut full = case_c(4);
+        full.polynomials[k] = exponents(4).iter().map(|e| term(1, e)).collect();
+        let mut counts = vec![1; 3];
+        counts[k] = 70;
+        assert_eq!(p.open(&full.bytes()), Ok((4, counts)));
+        full.polynomials[k].push(term(1, &[4, 1]));
+        assert_eq!(p.open(&full.bytes()), Err(5));
+    }
+    // 7: the fourth exponent is 0 in dimension 3, and counts in dimension 4.
+    for n in [3, 4] {
+        let mut w = case_c(n);
+        w.polynomials[0] = vec![term(1, &[0, 0, 0, 1])];
+        let opened = p.open(&w.bytes()).map(|(n, _)| n);
+        assert_eq!(opened, if n == 4 { Ok(4) } else { Err(7) });
+        w.polynomials[0] = vec![term(1, &[1, 1, 0, 2]), term(1, &[1, 1, 1, 2])];
+        assert_eq!(p.open(&w.bytes()), Err(7));
+    }
+    // 10: 8,192 x^2 is readable at 8 and not at 9, and in dimension 3 at 9 too; 524,288 x is
+    // readable from -1 to 1, and 1 more or less is not.
+    let along_x = |n: usize, terms: Vec<Term>, lowest: i64| {
+        let mut parts = case_c(n);
+        parts.ends[0] = (-1, 9);
+        parts.polynomials[0] = terms;
+        parts.start.facet.lowest[0] = lowest;
+        p.judge(&parts.bytes(), &parts.start.bytes())
+    };
+    let square = || vec![term(8_192, &[2])];
+    assert_eq!(along_x(4, square(), 7), Ok(false));
+    assert_eq!(along_x(4, square(), 8), Err(10));
+    assert_eq!(along_x(3, square(), 8), Ok(false));
+    for (size, constant, lowest, answer) in [
+        (524_288, 0, 0, Ok(true)),
+        (524_288, -1, 0, Ok(true)),
+        (524_288, 1, 0, Err(10)),
+        (524_288, 1, -1, Ok(true)),
+        (524_288, -1, -1, Err(10)),
+        (-524_288, -1, 0, Err(10)),
+    ] {
+        let terms = [(constant, 0), (size, 1)].map(|(c, e)| term(c, &[e]));
+        let terms = terms.into_iter().filter(|t| t.coefficient != 0).collect();
+        assert_eq!(along_x(4, terms, lowest), answer, "{size} {constant} {lowest}");
+    }
+}
+
 /// The five wrong turns.
 pub fn wrong_turns(p: &dyn Product) {
     // A zero counted as both high and low: a triangle of values 0, 1, -1 has two crossed facets.
@@ -132,7 +273,7 @@ pub fn wrong_turns(p: &dyn Product) {
     assert_eq!(crossed, [true, false, true]);
     // Judging by power 0 alone: in C each of these facets has weights 0, 0 and 1 at the
     // same lowest vertex, and some are crossed and some are not.
-    let c = case_c();
+    let c = case_c(3);
     for (masks, is_crossed) in
         [([1, 3], true), ([1, 7], true), ([5, 7], true), ([2, 3], false), ([2, 7], false)]
     {

@@ -2,7 +2,7 @@
 //! tested in the order written. A refusal is its number alone and no buffer is touched.
 
 use crate::crossed::{self, column, is_crossed, Column};
-use crate::grid::{Facet, Place, Simplex, Vertex};
+use crate::grid::{Facet, Place, Vertex};
 use crate::job::{open, Job};
 use crate::limits::{Limits, MOST};
 
@@ -42,6 +42,15 @@ fn columns(job: &Job, vertices: &[Vertex]) -> Result<[Column; MOST + 1], Unfit> 
         return Err(Unfit::Unreadable);
     }
     Ok(columns)
+}
+
+/// The largest size of a value at the vertices; none if one of them lies outside the box.
+pub fn largest_value(job: &Job, vertices: &[Vertex]) -> Option<i128> {
+    if !vertices.iter().all(|v| in_box(job, v)) {
+        return None;
+    }
+    let columns = vertices.iter().map(|v| column(&job.polynomials, v));
+    columns.flat_map(|c| c[1..].to_vec()).map(|value| value.abs()).max()
 }
 
 /// 9 a vertex outside the box; 10 a vertex value not readable; else the columns of the facet.
@@ -93,46 +102,26 @@ pub enum Step {
     Limit,
 }
 
-/// What a simplex is to Step: with a vertex outside the box, in the box and not readable,
-/// or readable, with its crossed facets by the vertex left out.
-pub enum Look {
-    Outside,
-    Unreadable,
-    Readable(Vec<usize>),
-}
-
-/// Looks at a simplex.
-pub fn look(job: &Job, simplex: &Simplex) -> Look {
-    let n = job.n;
-    match columns(job, &simplex.vertices()[..=n]) {
-        Err(Unfit::Outside) => Look::Outside,
-        Err(Unfit::Unreadable) => Look::Unreadable,
-        Ok(columns) => {
-            let is_crossed_without = |i: usize| {
-                let mut facet = [[0; MOST]; MOST];
-                for k in 0..n {
-                    facet[k] = columns[if k < i { k } else { k + 1 }];
-                }
-                is_crossed(&facet[..n])
-            };
-            Look::Readable((0..=n).filter(|&i| is_crossed_without(i)).collect())
-        }
-    }
-}
-
 /// The simplex on the place's side: edge, limit, or the place of its other crossed facet,
 /// its side leading onward.
 fn onward(job: &Job, place: &Place) -> Step {
+    let n = job.n;
     let (simplex, extra) = place.simplex();
-    match look(job, &simplex) {
-        Look::Outside => Step::Edge,
-        Look::Unreadable => Step::Limit,
-        Look::Readable(crossed) => {
-            let others: Vec<usize> = crossed.into_iter().filter(|&i| i != extra).collect();
-            assert_eq!(others.len(), 1, "exactly one other crossed facet");
-            Step::Next(Place::out_of(&simplex, others[0]))
+    let columns = match columns(job, &simplex.vertices()[..=n]) {
+        Err(Unfit::Outside) => return Step::Edge,
+        Err(Unfit::Unreadable) => return Step::Limit,
+        Ok(columns) => columns,
+    };
+    let is_crossed_without = |i: usize| {
+        let mut facet = [[0; MOST]; MOST];
+        for k in 0..n {
+            facet[k] = columns[if k < i { k } else { k + 1 }];
         }
-    }
+        is_crossed(&facet[..n])
+    };
+    let others: Vec<usize> = (0..=n).filter(|&i| i != extra && is_crossed_without(i)).collect();
+    assert_eq!(others.len(), 1, "exactly one other crossed facet");
+    Step::Next(Place::out_of(&simplex, others[0]))
 }
 
 /// **Step.** 13, 9, 10, 11; else what lies on the place's side.

@@ -1,7 +1,9 @@
-//! Counts of what a test met, so that it can say that it met each.
+//! Counts of what a test met, so that it can say that it met each in each dimension.
 
 use std::collections::BTreeMap;
 use std::fmt::Debug;
+
+use crate::limits::DIMENSIONS;
 
 /// An enum whose cases can be listed.
 pub trait Named: Ord + Copy + Debug + 'static {
@@ -32,8 +34,8 @@ macro_rules! named {
 /// A refusal's number, or another answer's name.
 pub type Answer = Result<&'static str, u8>;
 
-/// How often each was met.
-pub struct Tally<T>(BTreeMap<T, u64>);
+/// How often each was met, by dimension.
+pub struct Tally<T>(BTreeMap<usize, BTreeMap<T, u64>>);
 
 impl<T: Ord + Copy + Debug> Default for Tally<T> {
     fn default() -> Tally<T> {
@@ -42,31 +44,53 @@ impl<T: Ord + Copy + Debug> Default for Tally<T> {
 }
 
 impl<T: Ord + Copy + Debug> Tally<T> {
-    pub fn count(&mut self, met: T) {
-        *self.0.entry(met).or_default() += 1;
+    pub fn count(&mut self, n: usize, met: T) {
+        *self.0.entry(n).or_default().entry(met).or_default() += 1;
     }
 
-    /// Fails unless exactly these were met.
-    pub fn assert_met(&self, wanted: &[T]) {
-        println!("{:?}", self.0);
+    /// How often each was met in a dimension.
+    fn of(&self, n: usize) -> &BTreeMap<T, u64> {
+        let counts = self.0.get(&n).unwrap_or_else(|| panic!("nothing in dimension {n}"));
+        println!("{n}: {} {counts:?}", counts.values().sum::<u64>());
+        counts
+    }
+
+    /// Fails unless exactly these were met in a dimension.
+    pub fn assert_met_in(&self, n: usize, wanted: &[T]) {
         let mut wanted = wanted.to_vec();
         wanted.sort();
-        let met: Vec<T> = self.0.keys().copied().collect();
-        assert_eq!(met, wanted);
+        let met: Vec<T> = self.of(n).keys().copied().collect();
+        assert_eq!(met, wanted, "in dimension {n}");
     }
 
-    /// Fails unless each of these was met.
+    /// Fails unless exactly these were met in each dimension.
+    pub fn assert_met(&self, wanted: &[T]) {
+        DIMENSIONS.into_iter().for_each(|n| self.assert_met_in(n, wanted));
+    }
+
+    /// Fails unless each of these was met in each dimension.
     pub fn assert_includes(&self, wanted: &[T]) {
-        println!("{:?}", self.0);
-        for case in wanted {
-            assert!(self.0.contains_key(case), "{case:?} was not met");
+        for n in DIMENSIONS {
+            let counts = self.of(n);
+            for case in wanted {
+                assert!(counts.contains_key(case), "{case:?} was not met in dimension {n}");
+            }
         }
+    }
+
+    /// Fails unless as many were met in the largest dimension as in each other.
+    pub fn assert_most_in_largest(&self) {
+        let totals = self.0.iter().map(|(&n, counts)| (counts.values().sum::<u64>(), n));
+        let (_, n) = totals.max().expect("something that was met");
+        assert_eq!(Some(n), DIMENSIONS.into_iter().max());
     }
 }
 
 impl<T: Named> Tally<T> {
-    /// Fails unless each case of the enum was met.
+    /// Fails unless each case of the enum was met in each dimension, and as many in the largest
+    /// dimension as in each other.
     pub fn assert_all(&self) {
+        self.assert_most_in_largest();
         self.assert_met(&T::all());
     }
 }

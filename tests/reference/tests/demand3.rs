@@ -1,10 +1,10 @@
 //! The third demand on the reference: the reversed trace, no facet twice, each joined to the
 //! start's, and the two traces together against the curve found by brute force over the box; in
-//! every dimension of the table of limits, accepted by Open or not.
+//! every dimension.
 
 use std::collections::HashSet;
 
-use reference::curve::{closes, Joints};
+use reference::curve::Joints;
 use reference::generate::{valid_small, Random};
 use reference::grid::{Facet, Place};
 use reference::job::Job;
@@ -33,7 +33,8 @@ fn check_reversal(job: &Job, start: Place, space: usize) {
 /// Everything the demand says about the curve of the start's facet.
 fn check_curve(job: &Job) -> (bool, usize) {
     let start = job.start;
-    let curve = Joints::of(job).curve(&start.facet);
+    let joints = Joints::of(job);
+    let curve = joints.curve(&start.facet);
     let space = curve.len();
     let (verdict, forth) = from_place(job, start, space);
     let (turned_verdict, back) = from_place(job, start.turned(), space);
@@ -41,7 +42,7 @@ fn check_curve(job: &Job) -> (bool, usize) {
     assert_ne!(turned_verdict, Verdict::Full);
     let listed: HashSet<Facet> = forth.iter().chain(&back).map(|p| p.facet).collect();
     assert_eq!(listed, curve);
-    let closed = closes(job, &curve);
+    let closed = joints.closes(&curve);
     if closed {
         assert_eq!((verdict, turned_verdict), (Verdict::Loop, Verdict::Loop));
         assert_eq!((forth.len(), back.len()), (curve.len(), curve.len()));
@@ -55,26 +56,34 @@ fn check_curve(job: &Job) -> (bool, usize) {
     (closed, curve.len())
 }
 
+/// So many jobs of dimension n.
+fn check_jobs(n: usize, jobs: u32) {
+    let mut r = Random::new(3);
+    let (mut closed, mut open_ended, mut longest) = (0, 0, 0);
+    while closed + open_ended < jobs {
+        let job = valid_small(&mut r, n).1.opened();
+        if trace_places(&job, 1).is_err() {
+            continue;
+        }
+        let (is_closed, count) = check_curve(&job);
+        for space in [0, 1, count / 2, count, count + 3] {
+            check_reversal(&job, job.start, space);
+            check_reversal(&job, job.start.turned(), space);
+        }
+        closed += is_closed as u32;
+        open_ended += !is_closed as u32;
+        longest = longest.max(count);
+    }
+    println!("{n}: {closed} closed, {open_ended} not, the longest of {longest} facets");
+    assert!(closed > jobs / 10 && open_ended > jobs / 2 && longest > 80);
+}
+
+/// Most of the time goes into dimension 4, so the dimensions are checked side by side.
 #[test]
 fn reversal_repeats_and_whole_curves() {
-    for (n, jobs) in DIMENSIONS.into_iter().zip([2_000, 2_000, 60]) {
-        let mut r = Random::new(3);
-        let (mut closed, mut open_ended, mut longest) = (0, 0, 0);
-        while closed + open_ended < jobs {
-            let job = valid_small(&mut r, n).1.opened();
-            if trace_places(&job, 1).is_err() {
-                continue;
-            }
-            let (is_closed, count) = check_curve(&job);
-            for space in [0, 1, count / 2, count, count + 3] {
-                check_reversal(&job, job.start, space);
-                check_reversal(&job, job.start.turned(), space);
-            }
-            closed += is_closed as u32;
-            open_ended += !is_closed as u32;
-            longest = longest.max(count);
+    std::thread::scope(|scope| {
+        for (n, jobs) in DIMENSIONS.into_iter().zip([2_000, 2_000, 1_000]) {
+            scope.spawn(move || check_jobs(n, jobs));
         }
-        println!("{n}: {closed} closed, {open_ended} not, the longest of {longest} facets");
-        assert!(closed > jobs / 20 && open_ended > jobs / 2 && longest > 30);
-    }
+    });
 }

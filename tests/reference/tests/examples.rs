@@ -4,7 +4,7 @@
 use std::collections::HashSet;
 use std::path::{Path, PathBuf};
 
-use reference::curve::{closes, Joints};
+use reference::curve::Joints;
 use reference::job::open;
 use reference::listing::SPACE;
 use reference::operations::{trace_places, with_start, Verdict};
@@ -36,8 +36,9 @@ fn each_row_holds() {
         let job = open(&bytes).expect("a job that opens");
         let (verdict, forth) = trace_places(&job, SPACE).expect("no refusal");
         assert_eq!(format!("{} {}", verdict.word(), forth.len()), *answer, "{name}");
-        let curve = Joints::of(&job).curve(&job.start.facet);
-        let closed = closes(&job, &curve);
+        let joints = Joints::of(&job);
+        let curve = joints.curve(&job.start.facet);
+        let closed = joints.closes(&curve);
         let ending = if closed { "closes" } else { "does not close" };
         assert_eq!(format!("{} facets, {ending}", curve.len()), *whole, "{name}");
         // The two traces from the start list the curve.

@@ -1,8 +1,8 @@
-//! Cases A to J and the wrong turns on the reference.
+//! Cases A to J, their like in dimension 4 and the wrong turns on the reference.
 
-use reference::build::case_a;
+use reference::build::{case_a, case_c};
 use reference::listing::listing;
-use reference::marked::{self, CASE_A_LISTING};
+use reference::marked::{self, CASE_A_LISTING, CASE_C_4_LISTING};
 use reference::product::Reference;
 
 #[test]
@@ -11,13 +11,19 @@ fn cases_a_to_j() {
 }
 
 #[test]
+fn dimension_4() {
+    marked::dimension_4(&Reference);
+}
+
+#[test]
 fn wrong_turns() {
     marked::wrong_turns(&Reference);
 }
 
 #[test]
-fn listing_of_case_a() {
+fn listings() {
     assert_eq!(listing(&case_a().bytes()), CASE_A_LISTING);
+    assert_eq!(listing(&case_c(4).bytes()), CASE_C_4_LISTING);
     assert_eq!(listing(&[]), "refused 1\n");
     assert_eq!(listing(&[0; 2048]), "refused 2\n");
     assert_eq!(listing(&[0; 2049]), "refused 5\n");

@@ -65,7 +65,8 @@ fn every_edit_stands_in_the_row_of_its_promise() {
     }
 }
 
-/// Each number of document 01 and of the demands has a row, and a row fits a screen.
+/// Each number of document 01, of the demands and of the requests that have landed has a row, and a
+/// row fits a screen.
 #[test]
 fn every_number_has_a_row() {
     let page = page();
@@ -84,6 +85,14 @@ fn every_number_has_a_row() {
     for (kind, last) in ranges {
         for k in 1..=last {
             let number = format!("{kind}{k}");
+            assert!(rows.iter().any(|(row, _)| *row == number), "no row {number}");
+        }
+    }
+    // The sentences of a request are lettered from a on.
+    let requests = [("R12", 'f')];
+    for (request, last) in requests {
+        for letter in 'a'..=last {
+            let number = format!("{request}{letter}");
             assert!(rows.iter().any(|(row, _)| *row == number), "no row {number}");
         }
     }

@@ -11,10 +11,10 @@
 //! start 0 0 masks 1 side 0
 //! ```
 //!
-//! `box` gives the low and high end of each axis; `polynomial` is followed by a line for each
-//! term, the coefficient and an exponent for each axis, in any order: terms are sorted and like
-//! terms gathered. `start` gives the lowest vertex, the masks and the side. Numbers must
-//! fit their fields; whether the job opens is for the product to say.
+//! `dimension` is 2, 3 or 4. `box` gives the low and high end of each axis; `polynomial` is
+//! followed by a line for each term, the coefficient and an exponent for each axis, in any order:
+//! terms are sorted and like terms gathered. `start` gives the lowest vertex, the masks and the
+//! side. Numbers must fit their fields; whether the job opens is for the product to say.
 
 struct Text {
     dimension: Option<usize>,
@@ -47,7 +47,7 @@ impl Text {
     fn line(&mut self, words: &[&str]) -> Result<(), String> {
         match words[0] {
             "dimension" => {
-                let n = number(words.get(1).ok_or("a dimension is missing")?, 2, 3)?;
+                let n = number(words.get(1).ok_or("a dimension is missing")?, 2, 4)?;
                 self.dimension = Some(n as usize);
             }
             "box" => {

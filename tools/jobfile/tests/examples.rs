@@ -29,7 +29,32 @@ fn terms_are_sorted_and_gathered() {
 }
 
 #[test]
+fn dimension_4_has_three_polynomials_and_four_exponents() {
+    let head = "dimension 4\nbox 0 1 0 1 0 1 0 1\n";
+    let start = "start 0 0 0 1 masks 1 3 7 side 1\n";
+    let polynomials =
+        "polynomial\n1 1 0 0 0\n-3 0 0 0 2\npolynomial\n1 0 1 0 0\npolynomial\n5 0 0 1 1\n";
+    let job = jobfile::job(&format!("{head}{polynomials}{start}")).expect("a job");
+    assert_eq!(job[..4], [1, 4, 5, 0]);
+    assert_eq!(job.len(), 24 + 16 + 16 + 8 + 8 + 12);
+    assert_eq!(job[40..48], [253, 255, 255, 255, 0, 0, 0, 2]);
+    assert_eq!(job[48..56], [1, 0, 0, 0, 1, 0, 0, 0]);
+    assert_eq!(job[64..72], [5, 0, 0, 0, 0, 0, 1, 1]);
+    assert_eq!(job[72..], [0, 0, 0, 0, 0, 0, 1, 0, 1, 3, 7, 1]);
+    let two = polynomials.rsplit_once("polynomial").expect("three").0;
+    let fault = jobfile::job(&format!("{head}{two}{start}")).unwrap_err();
+    assert_eq!(fault, "dimension 4 has 3 polynomials");
+    assert!(jobfile::job(&format!("{head}polynomial\n1 0 0 1\n"))
+        .unwrap_err()
+        .starts_with("line 4: "));
+}
+
+#[test]
 fn faults_name_their_line() {
+    for n in [1, 5] {
+        let fault = format!("line 1: {n} does not fit its field, 2 to 4");
+        assert_eq!(jobfile::job(&format!("dimension {n}")), Err(fault));
+    }
     assert_eq!(jobfile::job("box 0 1"), Err("line 1: 'dimension' comes first".to_string()));
     assert!(jobfile::job("dimension 2\nbox 0 1 0").unwrap_err().starts_with("line 2: "));
     assert!(jobfile::job("dimension 2\npolynomial\n1 0 x").unwrap_err().starts_with("line 3: "));

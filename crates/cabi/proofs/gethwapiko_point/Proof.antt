@@ -15,8 +15,8 @@ point-requires c κs = search needs
 enum-known-refusal : tie.Need-enum-known-refusal
 enum-known-refusal c = search needs
 
-enum-known-p : tie.Need-enum-known-p
-enum-known-p c = search needs
+enum-known-q : tie.Need-enum-known-q
+enum-known-q c = search needs
 
 returns : tie.Need-returns
 unfolding pointedAs pointNumbers
@@ -29,8 +29,9 @@ returns-2 c =
     (toZ-ofZ w64 _ (record { sfits = c .struct-told .given .0 .1 }))
     (toZ-ofZ w64 _ (record { sfits = c .struct-told .given .1 .0 .1 }))
     (toZ-ofZ w64 _ (record { sfits = c .struct-told .given .1 .1 .0 .1 }))
-    (ap pointedAs (sym (c .before .before .p .given .1)) ∙ c .before .before .before .before .point .ensures)
+    (toZ-ofZ w64 _ (record { sfits = c .struct-told .given .1 .1 .1 .0 .1 }))
+    (ap pointedAs (sym (c .before .before .q .given .1)) ∙ c .before .before .before .before .point .ensures)
 
 pub gethwapiko-point-spec : {M : Type 1} → statement M
 gethwapiko-point-spec =
-    tie.close (tie.spec point-requires enum-known-refusal enum-known-p returns returns-2)
+    tie.close (tie.spec point-requires enum-known-refusal enum-known-q returns returns-2)

@@ -58,6 +58,7 @@ returns-4 c =
     (toZ-ofZ w64 _ (record { sfits = c .struct-told .given .0 .1 }))
     (toZ-ofZ w64 _ (record { sfits = c .struct-told .given .1 .0 .1 }))
     (toZ-ofZ w64 _ (record { sfits = c .struct-told .given .1 .1 .0 .1 }))
+    (toZ-ofZ w64 _ (record { sfits = c .struct-told .given .1 .1 .1 .0 .1 }))
     (ap steppedAs (sym (c .before .before .p .given .1)) ∙ c .before .before .before .before .step .ensures)
 
 pub gethwapiko-step-spec : {M : Type 1} → statement M

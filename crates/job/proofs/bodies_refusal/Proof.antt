@@ -54,7 +54,7 @@ start-test c = c .place-ok .ensures ∙ ap (startOk _) (c .before .part-of2 .ens
 -- ---- the needs
 
 contents-ok-requires : tie.Need-contents-ok-requires
-contents-ok-requires c κs = c .before .pre .high
+contents-ok-requires c κs = c .before .pre
 
 returns : tie.Need-returns
 returns c = refuse-contents _ _ (test-failed (c .before .contents-ok .ensures) (c .if1 .taken))

@@ -22,11 +22,15 @@ polynomial-terms-requires c κs = search needs
 polynomial-terms-requires-2 : tie.Need-polynomial-terms-requires-2
 polynomial-terms-requires-2 c κs = search needs
 
+polynomial-terms-requires-3 : tie.Need-polynomial-terms-requires-3
+polynomial-terms-requires-3 c κs = search needs
+
 returns-2 : tie.Need-returns-2
 unfolding openedAs
 returns-2 c =
-    open-answered _ (sym (c .before .before .before .before .open-refusal .ensures) ∙ c .before .before .before .if1 .left) (c .before .before .opened-dimension .ensures)
-    (c .before .polynomial-terms .ensures) (c .polynomial-terms2 .ensures)
+    let opened = c .before .before .before .before in
+    open-answered _ (sym (opened .before .open-refusal .ensures) ∙ opened .if1 .left) (c .before .before .before .opened-dimension .ensures)
+    (c .before .before .polynomial-terms .ensures) (c .before .polynomial-terms2 .ensures) (c .polynomial-terms3 .ensures)
 
 pub open-spec : {M : Type 1} → statement M
 open-spec =
@@ -37,4 +41,5 @@ open-spec =
     opened-dimension-requires
     polynomial-terms-requires
     polynomial-terms-requires-2
+    polynomial-terms-requires-3
     returns-2)

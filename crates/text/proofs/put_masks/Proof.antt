@@ -18,7 +18,7 @@ returns : tie.Need-returns
 returns c =
     let first = c .before .before .before in
     let given = first .before .before .before .args in
-    writes-as (one-shown (given .m) (pos (given .mask1)) (pos (given .mask2)) (pos (given .mask3)) refl (c .if1 .taken))
+    writes-as (one-shown (given .k) (pos (given .mask1)) (pos (given .mask2)) (pos (given .mask3)) refl (c .if1 .taken))
     (omega arith) (first .put-mask .ensures)
 
 put-mask-requires-2 : tie.Need-put-mask-requires-2
@@ -32,7 +32,7 @@ returns-2 c =
     let second = c .before .before .before in
     let first = second .before .before .before .before .before in
     let given = first .before .before .before .args in
-    writes-as (two-shown (given .m) (pos (given .mask1)) (pos (given .mask2)) (pos (given .mask3)) refl refl (c .if2 .taken))
+    writes-as (two-shown (given .k) (pos (given .mask1)) (pos (given .mask2)) (pos (given .mask3)) refl refl (c .if2 .taken))
     (omega arith) (writes-then (omega arith) (first .put-mask .ensures) (λ i. second .put-mask2 .ensures))
 
 put-mask-requires-3 : tie.Need-put-mask-requires-3
@@ -51,7 +51,7 @@ returns-3 c =
     let start = first .before .before .before in
     let given = start .args in
     writes-as
-    (three-shown (given .m) (pos (given .mask1)) (pos (given .mask2)) (pos (given .mask3)) refl refl
+    (three-shown (given .k) (pos (given .mask1)) (pos (given .mask2)) (pos (given .mask3)) refl refl
     (start .pre .0) (above-one .if1 .left) (above-two .if2 .left) refl)
     (omega arith)
     (writes-then (omega arith) (first .put-mask .ensures)

@@ -5,7 +5,7 @@
 use std::io::Read;
 use std::process::ExitCode;
 
-use reference::curve::{closes, Joints};
+use reference::curve::Joints;
 use reference::job::open;
 
 fn main() -> ExitCode {
@@ -20,14 +20,15 @@ fn main() -> ExitCode {
             return ExitCode::FAILURE;
         }
     };
-    for curve in Joints::of(&job).curves() {
+    let joints = Joints::of(&job);
+    for curve in joints.curves() {
         let least = curve.iter().min().expect("a curve has a facet");
         println!(
             "start {:?} masks {:?}: {} facets, {}",
             &least.lowest[..job.n],
             &least.masks[..job.n - 1],
             curve.len(),
-            if closes(&job, &curve) { "closes" } else { "does not close" }
+            if joints.closes(&curve) { "closes" } else { "does not close" }
         );
     }
     ExitCode::SUCCESS

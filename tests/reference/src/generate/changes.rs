@@ -194,7 +194,7 @@ fn changed(r: &mut Random, parts: &Parts, change: Change, damages: &[Damage]) ->
         }
         Change::Cut => {
             let near_the_front = r.once_in(2);
-            let most = if near_the_front { 24 } else { bytes.len() };
+            let most = if near_the_front { 28 } else { bytes.len() };
             bytes.truncate(r.index(most));
         }
         Change::Lengthened => {
@@ -216,10 +216,20 @@ fn changed(r: &mut Random, parts: &Parts, change: Change, damages: &[Damage]) ->
 /// Bytes to hand to Open, and how they were made.
 pub struct AnyJob {
     pub bytes: Vec<u8>,
+    /// The dimension of the job that they were made of.
+    pub made_in: usize,
     pub kind: Kind,
     pub change: Change,
     /// For a damaged job, in the order in which they were done.
     pub damages: Vec<Damage>,
+}
+
+impl AnyJob {
+    /// The dimension in byte 1, or that of the job that they were made of if there is none.
+    pub fn n(&self) -> usize {
+        let written = self.bytes.get(1).map(|&byte| byte as usize);
+        written.filter(|n| DIMENSIONS.contains(n)).unwrap_or(self.made_in)
+    }
 }
 
 /// Any bytes to hand to Open.
@@ -234,7 +244,7 @@ pub fn any_job(r: &mut Random) -> AnyJob {
     };
     let damages: Vec<Damage> = (0..count).map(|_| r.named()).collect();
     let bytes = changed(r, &parts, change, &damages);
-    AnyJob { bytes, kind, change, damages }
+    AnyJob { bytes, made_in: parts.n, kind, change, damages }
 }
 
 /// Counts of how jobs were made.
@@ -247,14 +257,14 @@ pub struct JobTally {
 
 impl JobTally {
     pub fn count(&mut self, job: &AnyJob) {
-        self.kinds.count(job.kind);
-        self.changes.count(job.change);
+        self.kinds.count(job.made_in, job.kind);
+        self.changes.count(job.made_in, job.change);
         for &damage in &job.damages {
-            self.damages.count(damage);
+            self.damages.count(job.made_in, damage);
         }
     }
 
-    /// Fails unless each kind, each change and each damage was met.
+    /// Fails unless each kind, each change and each damage was met in each dimension.
     pub fn assert_all(&self) {
         self.kinds.assert_all();
         self.changes.assert_all();
@@ -299,11 +309,11 @@ mod tests {
             };
             let mut r = Random::new(4);
             let mut met = Tally::default();
-            for _ in 0..3_000 {
+            for _ in 0..9_000 {
                 let (_, parts) = valid_of_any(&mut r, false);
                 let mut bytes = parts.bytes();
                 Layout::of(&parts).damage(&mut r, &mut bytes, damage);
-                met.count(opened(&bytes));
+                met.count(parts.n, opened(&bytes));
             }
             println!("{damage:?}");
             met.assert_met(&wanted);
@@ -319,7 +329,7 @@ mod tests {
         for _ in 0..60_000 {
             let job = any_job(&mut r);
             made.count(&job);
-            met.entry(job.change).or_default().count(opened(&job.bytes));
+            met.entry(job.change).or_default().count(job.n(), opened(&job.bytes));
         }
         made.assert_all();
         for (change, met) in met {

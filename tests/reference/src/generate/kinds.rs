@@ -3,8 +3,9 @@
 use super::random::Random;
 use crate::build::{exponents, gathered, power_of, product, term, Parts};
 use crate::crossed::{value, Term};
-use crate::grid::{chains, Facet, Place, Vertex};
-use crate::limits::{accepted, Limits, LARGEST_COEFFICIENT, LARGEST_COORDINATE, MOST};
+use crate::grid::{above, chains, orders, vertex, Facet, Place, Vertex};
+use crate::job::Job;
+use crate::limits::{Limits, LARGEST_COEFFICIENT, LARGEST_COORDINATE, MOST};
 use crate::named;
 use crate::operations::facet_is_crossed;
 
@@ -32,57 +33,77 @@ named! {
 /// dimension than in another.
 struct Scale {
     n: usize,
+    /// How often a job is of this dimension: most often of the largest.
+    weight: u64,
     /// Reach and longest side of a small box.
-    small: i64,
+    small: (i64, i64),
     /// The most linear forms in a product.
     forms: u64,
     /// Reach and longest side of a box around the readable limit.
     around_limit: (i64, i64),
+    /// The most that a box around axis 1 reaches below and above it.
+    beside_axis: (i64, i64),
     /// The reach of a large box is one of these.
     large: [i64; 3],
     /// The reach of a box for all terms.
     all_terms: i64,
+    /// A size of their coefficients at which most values of that box are readable.
+    coefficient: i64,
     /// The largest radius of a closed curve.
     radius: i64,
-    /// How many facets are tried for a crossed start.
+    /// How many vertices of the box are tried for a crossed start.
     tries: usize,
 }
 
 const SCALES: [Scale; 3] = [
     Scale {
         n: 2,
-        small: 8,
+        weight: 3,
+        small: (8, 8),
         forms: 4,
         around_limit: (18, 20),
+        beside_axis: (2, 3),
         large: [12, 40, LARGEST_COORDINATE],
         all_terms: 6,
+        coefficient: 1000,
         radius: 12,
-        tries: 30,
+        tries: 10,
     },
     Scale {
         n: 3,
-        small: 4,
+        weight: 3,
+        small: (4, 4),
         forms: 2,
         around_limit: (17, 5),
+        beside_axis: (2, 3),
         large: [8, 20, LARGEST_COORDINATE],
         all_terms: 3,
+        coefficient: 1000,
         radius: 5,
-        tries: 120,
+        tries: 20,
     },
     Scale {
         n: 4,
-        small: 2,
+        weight: 4,
+        small: (3, 4),
         forms: 2,
         around_limit: (17, 2),
+        beside_axis: (1, 2),
         large: [4, 8, LARGEST_COORDINATE],
         all_terms: 2,
+        coefficient: 100,
         radius: 2,
-        tries: 480,
+        tries: 30,
     },
 ];
 
 fn scale(n: usize) -> &'static Scale {
     SCALES.iter().find(|row| row.n == n).expect("a dimension of the table")
+}
+
+/// The dimension of a job.
+fn any_dimension(r: &mut Random) -> usize {
+    r.weighted(&SCALES.each_ref().map(|row| (row.n, row.weight)))
 }
 
 /// The box: per axis the low and high end.
@@ -107,6 +128,18 @@ pub fn vertex_in(r: &mut Random, ends: &[(i64, i64)]) -> Vertex {
     v
 }
 
+/// A vertex of the box, not on a face of it where a side is longer than 1.
+fn inner_vertex(r: &mut Random, ends: &[(i64, i64)]) -> Vertex {
+    let inner = |&(low, high): &(i64, i64)| {
+        if high - low > 1 {
+            (low + 1, high - 1)
+        } else {
+            (low, high)
+        }
+    };
+    vertex_in(r, &ends.iter().map(inner).collect::<Vec<_>>())
+}
+
 /// The polynomial, or one of the axes where it has no term.
 fn nonempty(r: &mut Random, n: usize, terms: Vec<Term>) -> Vec<Term> {
     if !terms.is_empty() {
@@ -116,24 +149,48 @@ fn nonempty(r: &mut Random, n: usize, terms: Vec<Term>) -> Vec<Term> {
     vec![Term { coefficient: r.pick(&[1, -1]), exponents }]
 }
 
-/// A polynomial of up to `most` terms of degree up to `degree`, coefficients up to `size`.
-fn polynomial(r: &mut Random, n: usize, most: u64, degree: u8, size: i64) -> Vec<Term> {
+/// An axis for each polynomial, all different: with a linear term of its own each, the
+/// polynomials mostly have a common curve.
+fn own_axes(r: &mut Random, n: usize) -> &'static [usize] {
+    let all = orders(n);
+    &all[r.index(all.len())][..n - 1]
+}
+
+/// Coefficients and degree of a polynomial.
+struct Shape {
+    /// The most terms besides the linear one.
+    most: u64,
+    degree: u8,
+    /// The largest coefficient.
+    size: i64,
+}
+
+/// A polynomial of that shape, mostly with a linear term of the axis.
+fn polynomial(r: &mut Random, n: usize, axis: usize, shape: Shape) -> Vec<Term> {
     let low_degree: Vec<[u8; MOST]> =
-        exponents(n).iter().copied().filter(|e| e.iter().sum::<u8>() <= degree).collect();
-    let count = 1 + r.below(most);
-    let terms: Vec<Term> = (0..count)
-        .map(|_| Term { coefficient: r.between(-size, size), exponents: r.pick(&low_degree) })
-        .collect();
+        exponents(n).iter().copied().filter(|e| e.iter().sum::<u8>() <= shape.degree).collect();
+    let any = |r: &mut Random| r.between(-shape.size, shape.size);
+    let mut terms = Vec::new();
+    if !r.once_in(4) {
+        terms.push(Term { coefficient: any(r), exponents: power_of(axis, 1) });
+    }
+    for _ in 0..1 + r.below(shape.most) {
+        terms.push(Term { coefficient: any(r), exponents: r.pick(&low_degree) });
+    }
     nonempty(r, n, gathered(&terms))
 }
 
-/// A product of up to `most` linear forms with small coefficients: 0 at many grid points.
-fn linear_product(r: &mut Random, n: usize, most: u64) -> Vec<Term> {
+/// A product of up to `most` linear forms with small coefficients, the first mostly with the
+/// axis: 0 at many grid points.
+fn linear_product(r: &mut Random, n: usize, axis: usize, most: u64) -> Vec<Term> {
     let mut all = vec![term(r.pick(&[1, -1, 1, 2]), &[])];
-    for _ in 0..1 + r.below(most) {
+    for k in 0..1 + r.below(most) {
         let mut form = vec![term(r.between(-2, 2), &[])];
-        for axis in 1..=n {
-            form.push(Term { coefficient: r.between(-1, 1), exponents: power_of(axis, 1) });
+        for other in 1..=n {
+            form.push(Term { coefficient: r.between(-1, 1), exponents: power_of(other, 1) });
+        }
+        if k == 0 {
+            form.push(Term { coefficient: r.pick(&[2, -2, 1]), exponents: power_of(axis, 1) });
         }
         let form = gathered(&form);
         if !form.is_empty() {
@@ -172,32 +229,35 @@ fn around_readable_limit(r: &mut Random, n: usize) -> (Ends, Vec<Vec<Term>>) {
     }
     let size = readable_to_16(n);
     let sizes = [size, -size, size - 1, size / 2, size / 16, 3, -1, 1];
-    let large_terms = |r: &mut Random| {
-        let mut terms = polynomial(r, n, 4, 2, 1);
+    let large_terms = |r: &mut Random, axis: usize| {
+        let mut terms = polynomial(r, n, axis, Shape { most: 4, degree: 2, size: 1 });
         for t in &mut terms {
             t.coefficient = r.pick(&sizes);
         }
         terms
     };
-    (ends, (1..n).map(|_| large_terms(r)).collect())
+    (ends, own_axes(r, n).iter().map(|&axis| large_terms(r, axis)).collect())
 }
 
 /// Polynomial k is c x^2 times axis k + 1, about: it is 0 along axis 1, and beside it readable
-/// up to x = 16. All but the first may be a product of linear forms instead.
+/// up to x = 16, where it may be at the limit or pass it by one. All but the first may be
+/// a product of linear forms instead.
 fn into_readable_limit(r: &mut Random, n: usize) -> (Ends, Vec<Vec<Term>>) {
     let mut ends = vec![(r.between(-3, 14), r.between(15, 20))];
-    ends.extend((1..n).map(|_| (r.between(-2, -1), r.between(1, 3))));
+    let (below, above) = scale(n).beside_axis;
+    ends.extend((1..n).map(|_| (-r.between(1, below), r.between(1, above))));
     let full = readable_to_16(n);
-    let size = r.pick(&[full, -full, full - 1, full / 2, full / 4]);
+    let size = r.pick(&[full, full, full, -full, full - 1, full / 4]);
     let mut polynomials = Vec::new();
     for axis in 2..=n {
         let mut exponents = power_of(axis, 1);
         exponents[0] = 2;
-        let mut terms = vec![Term { coefficient: size, exponents }, term(r.between(-9, 9), &[])];
+        let constant = r.pick(&[0, 1, 1, -1, -1, 9]);
+        let mut terms = vec![Term { coefficient: size, exponents }, term(constant, &[])];
         if axis == 2 {
-            terms.push(term(r.between(-3, 3), &[1, 1]));
-        } else if !r.once_in(3) {
-            terms = linear_product(r, n, 2);
+            terms.push(term(r.pick(&[0, 0, 0, 1, -3]), &[1, 1]));
+        } else if r.once_in(3) {
+            terms = linear_product(r, n, axis, 2);
         }
         polynomials.push(gathered(&terms));
     }
@@ -206,7 +266,7 @@ fn into_readable_limit(r: &mut Random, n: usize) -> (Ends, Vec<Vec<Term>>) {
 
 fn all_terms(r: &mut Random, n: usize) -> (Ends, Vec<Vec<Term>>) {
     let ends = random_box(r, n, scale(n).all_terms, 6);
-    let size = r.pick(&[2, 1000, LARGEST_COEFFICIENT]);
+    let size = r.pick(&[2, scale(n).coefficient, LARGEST_COEFFICIENT]);
     let with_largest = r.once_in(2);
     let full = |r: &mut Random| {
         let coefficient = |r: &mut Random| {
@@ -229,9 +289,14 @@ fn closed(r: &mut Random, n: usize) -> (Ends, Vec<Vec<Term>>) {
         round.push(Term { coefficient, exponents: power_of(axis, 2) });
     }
     let mut polynomials = vec![gathered(&round)];
-    for _ in 2..n {
+    for &axis in &own_axes(r, n)[1..] {
         let cut = r.once_in(2);
-        polynomials.push(if cut { linear_product(r, n, 1) } else { polynomial(r, n, 4, 2, 2) });
+        let curved = Shape { most: 4, degree: 2, size: 2 };
+        polynomials.push(if cut {
+            linear_product(r, n, axis, 1)
+        } else {
+            polynomial(r, n, axis, curved)
+        });
     }
     (vec![(-reach, reach); n], polynomials)
 }
@@ -242,12 +307,16 @@ fn surfaces(r: &mut Random, n: usize, kind: Kind) -> (Ends, Vec<Vec<Term>>) {
     match kind {
         Kind::Small => {
             let degree = r.pick(&[1, 2, 2, 3, 4]);
-            let ends = random_box(r, n, s.small, s.small);
-            (ends, (1..n).map(|_| polynomial(r, n, 5, degree, 3)).collect())
+            let ends = random_box(r, n, s.small.0, s.small.1);
+            let small = |r: &mut Random, axis: usize| {
+                polynomial(r, n, axis, Shape { most: 5, degree, size: 3 })
+            };
+            (ends, own_axes(r, n).iter().map(|&axis| small(r, axis)).collect())
         }
         Kind::ManyZeros => {
-            let ends = random_box(r, n, s.small, s.small);
-            (ends, (1..n).map(|_| linear_product(r, n, s.forms)).collect())
+            let ends = random_box(r, n, s.small.0, s.small.1);
+            let axes = own_axes(r, n).iter();
+            (ends, axes.map(|&axis| linear_product(r, n, axis, s.forms)).collect())
         }
         Kind::AroundReadableLimit => around_readable_limit(r, n),
         Kind::IntoReadableLimit => into_readable_limit(r, n),
@@ -255,14 +324,17 @@ fn surfaces(r: &mut Random, n: usize, kind: Kind) -> (Ends, Vec<Vec<Term>>) {
             let reach = r.pick(&s.large);
             let ends = random_box(r, n, reach, 2 * reach);
             let degree = r.pick(&[1, 2, 3]);
-            (ends, (1..n).map(|_| polynomial(r, n, 6, degree, 9)).collect())
+            let large = |r: &mut Random, axis: usize| {
+                polynomial(r, n, axis, Shape { most: 6, degree, size: 9 })
+            };
+            (ends, own_axes(r, n).iter().map(|&axis| large(r, axis)).collect())
         }
         Kind::AllTerms => all_terms(r, n),
         Kind::Closed => closed(r, n),
     }
 }
 
-/// The facet moved so that its vertices lie in the box, as far as the box allows.
+/// The facet moved so that its vertices lie in the box.
 fn into_box(facet: Facet, ends: &[(i64, i64)]) -> Facet {
     let mut moved = facet;
     for (k, &(low, high)) in ends.iter().enumerate() {
@@ -281,25 +353,63 @@ pub fn facet_near(r: &mut Random, n: usize, near: &Vertex) -> Facet {
     Facet { n, lowest, masks: r.pick(chains(n)) }
 }
 
-/// Looks for a crossed facet near a vertex and then anywhere in the box, and makes it the
-/// start; keeps any facet if none is found soon.
+/// Whether a polynomial of these values has one sign: then no facet of the vertices is crossed.
+fn has_one_sign(values: impl Iterator<Item = i128> + Clone) -> bool {
+    values.clone().all(|value| value > 0) || values.clone().all(|value| value < 0)
+}
+
+/// A crossed facet of that lowest vertex, if there is one.
+fn crossed_at(r: &mut Random, job: &Job, lowest: &Vertex) -> Option<Facet> {
+    let n = job.n;
+    // By polynomial, the values at the vertices of the cube by their masks.
+    let mut cube: Vec<Vec<i128>> = Vec::new();
+    for polynomial in &job.polynomials {
+        let values = (0..1 << n).map(|mask| value(polynomial, &above(lowest, mask))).collect();
+        cube.push(values);
+        if has_one_sign(cube[cube.len() - 1].iter().copied()) {
+            return None;
+        }
+    }
+    let may_be_crossed = |facet: &Facet| {
+        let at = |values: &Vec<i128>, i: usize| values[facet.mask(i) as usize];
+        !cube.iter().any(|values| has_one_sign((0..n).map(|i| at(values, i))))
+    };
+    let facets = chains(n).iter().map(|&masks| Facet { n, lowest: *lowest, masks });
+    let crossed: Vec<Facet> =
+        facets.filter(|facet| may_be_crossed(facet) && facet_is_crossed(job, facet)).collect();
+    (!crossed.is_empty()).then(|| r.pick(&crossed))
+}
+
+/// Looks for a crossed facet in the cubes around a vertex and then anywhere in the box, and
+/// makes it the start; any facet of the box is the start if none is found soon.
 fn choose_start(r: &mut Random, parts: &mut Parts, near: &Vertex) {
     let job = parts.opened();
-    let tries = scale(parts.n).tries;
-    for k in 0..tries {
-        let vertex = if k < tries / 2 { *near } else { vertex_in(r, &parts.ends) };
-        let facet = into_box(facet_near(r, parts.n, &vertex), &parts.ends);
-        parts.start = Place { facet, side: r.below(2) as u8 };
-        if facet_is_crossed(&job, &facet) {
+    let cubes = 1 << parts.n;
+    let first = r.index(cubes);
+    for k in 0..cubes + scale(parts.n).tries {
+        let mut lowest = vertex_in(r, &parts.ends);
+        if k < cubes {
+            lowest = *near;
+            for (axis, x) in lowest[..parts.n].iter_mut().enumerate() {
+                *x -= ((first ^ k) >> axis & 1) as i64;
+            }
+        }
+        if let Some(facet) = crossed_at(r, &job, &lowest) {
+            parts.start = Place { facet, side: r.below(2) as u8 };
             return;
         }
     }
+    parts.start.facet = into_box(parts.start.facet, &parts.ends);
 }
 
 /// A job of a kind; its start is searched for or left as it comes.
 pub fn valid_of(r: &mut Random, n: usize, kind: Kind, search: bool) -> Parts {
     let (ends, mut polynomials) = surfaces(r, n, kind);
-    let near = vertex_in(r, &ends);
+    let near = match kind {
+        Kind::IntoReadableLimit => vertex(&[r.between(ends[0].0, 15).max(r.between(0, 15))]),
+        _ if r.once_in(4) => vertex_in(r, &ends),
+        _ => inner_vertex(r, &ends),
+    };
     // These two are where they are meant to be.
     let keeps = matches!(kind, Kind::IntoReadableLimit | Kind::Closed);
     if !keeps && !r.once_in(4) {
@@ -316,21 +426,27 @@ pub fn valid_of(r: &mut Random, n: usize, kind: Kind, search: bool) -> Parts {
     parts
 }
 
-/// A job of any kind and any dimension that Open accepts.
+/// A job of any kind and any dimension.
 pub fn valid_of_any(r: &mut Random, search: bool) -> (Kind, Parts) {
-    let kind = r.named();
-    let n = r.pick(&accepted());
+    let (n, kind) = (any_dimension(r), r.named());
     (kind, valid_of(r, n, kind, search))
 }
 
-/// A job that opens, mostly with a crossed start.
-pub fn valid(r: &mut Random) -> (Kind, Parts) {
+/// A job of dimension n, mostly with a crossed start.
+pub fn valid_in(r: &mut Random, n: usize) -> (Kind, Parts) {
     loop {
-        let (kind, parts) = valid_of_any(r, true);
+        let kind = r.named();
+        let parts = valid_of(r, n, kind, true);
         if facet_is_crossed(&parts.opened(), &parts.start.facet) || r.once_in(3) {
             return (kind, parts);
         }
     }
+}
+
+/// A job of any dimension, mostly with a crossed start.
+pub fn valid(r: &mut Random) -> (Kind, Parts) {
+    let n = any_dimension(r);
+    valid_in(r, n)
 }
 
 /// A job of dimension n in a box small enough to be looked at whole.
@@ -356,64 +472,52 @@ mod tests {
         trace_places(&parts.opened(), 300).map(|(verdict, _)| verdict)
     }
 
-    /// The limits that Open tests, in a dimension that it need not accept.
-    fn assert_within_limits(parts: &Parts) {
-        let n = parts.n;
-        assert_eq!((parts.ends.len(), parts.polynomials.len()), (n, n - 1));
-        for p in &parts.polynomials {
-            assert!((1..=Limits::of(n).terms).contains(&p.len()));
-            assert!(p.windows(2).all(|t| t[0].exponents < t[1].exponents));
-            for t in p {
-                assert!(exponents(n).contains(&t.exponents));
-                assert!(t.coefficient != 0 && t.coefficient.abs() <= LARGEST_COEFFICIENT);
-            }
-        }
-    }
-
     /// Valid jobs open, most of their starts are crossed, and every answer comes up.
     #[test]
     fn valid_jobs_are_worth_tracing() {
-        let mut r = Random::new(1);
         let (mut kinds, mut answers) = (Tally::default(), Tally::default());
-        let mut refused = 0;
-        let count = 20_000;
-        for _ in 0..count {
-            let (kind, parts) = valid(&mut r);
-            open(&parts.bytes()).expect("a valid job");
-            let answer = traced(&parts);
-            kinds.count(kind);
-            answers.count(answer);
-            refused += answer.is_err() as u32;
+        for n in DIMENSIONS {
+            let mut r = Random::new(1);
+            let mut refused = 0;
+            let count = 6_000;
+            for _ in 0..count {
+                let (kind, parts) = valid_in(&mut r, n);
+                open(&parts.bytes()).expect("a valid job");
+                let answer = traced(&parts);
+                kinds.count(n, kind);
+                answers.count(n, answer);
+                refused += answer.is_err() as u32;
+            }
+            assert!(refused < count / 2, "in dimension {n}");
         }
         kinds.assert_all();
         let verdicts = [Verdict::Loop, Verdict::Edge, Verdict::Limit, Verdict::Full];
         answers.assert_met(&[&verdicts.map(Ok)[..], &[Err(9), Err(10), Err(11)]].concat());
-        assert!(refused < count / 2);
     }
 
-    /// Each kind keeps the limits of a job in each dimension, and reaches what it is for.
+    /// Jobs of each kind open in each dimension and reach what the kind is for.
     #[test]
     fn each_kind_reaches_its_aim() {
-        for n in DIMENSIONS {
-            let mut r = Random::new(2);
-            for kind in Kind::all() {
-                let mut met = Tally::default();
+        for kind in Kind::all() {
+            let mut met = Tally::default();
+            for n in DIMENSIONS {
+                let mut r = Random::new(2);
                 for _ in 0..300 {
                     let parts = valid_of(&mut r, n, kind, true);
-                    assert_within_limits(&parts);
-                    met.count(traced(&parts));
+                    open(&parts.bytes()).expect("a valid job");
+                    met.count(n, traced(&parts));
                 }
-                println!("{kind:?} in dimension {n}");
-                met.assert_includes(match kind {
-                    Kind::Small => &[Ok(Verdict::Edge)],
-                    Kind::ManyZeros => &[Ok(Verdict::Edge)],
-                    Kind::AroundReadableLimit => &[Err(10), Ok(Verdict::Edge)],
-                    Kind::IntoReadableLimit => &[Ok(Verdict::Limit)],
-                    Kind::LargeBox => &[Ok(Verdict::Full)],
-                    Kind::AllTerms => &[Ok(Verdict::Edge)],
-                    Kind::Closed => &[Ok(Verdict::Loop)],
-                });
             }
+            println!("{kind:?}");
+            met.assert_includes(match kind {
+                Kind::Small => &[Ok(Verdict::Edge)],
+                Kind::ManyZeros => &[Ok(Verdict::Edge)],
+                Kind::AroundReadableLimit => &[Err(10), Ok(Verdict::Edge)],
+                Kind::IntoReadableLimit => &[Ok(Verdict::Limit)],
+                Kind::LargeBox => &[Ok(Verdict::Full)],
+                Kind::AllTerms => &[Ok(Verdict::Edge)],
+                Kind::Closed => &[Ok(Verdict::Loop)],
+            });
         }
     }
 }

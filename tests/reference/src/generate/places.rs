@@ -16,6 +16,8 @@ named! {
         Start: 1,
         /// Some steps along the curve or at its end, now and then turned.
         OnCurve: 2,
+        /// A facet of a simplex that the curve goes through.
+        BesideCurve: 2,
         /// At most 1 from the start on each axis.
         NearStart: 2,
         /// At most 1 from a vertex of the box.
@@ -43,6 +45,12 @@ named! {
     }
 }
 
+/// Some steps along the curve or at its end; the start if it is not crossed.
+fn on_curve(r: &mut Random, parts: &Parts) -> Place {
+    let traced = trace_places(&parts.opened(), r.pick(&[1, 2, 3, 5, 40]));
+    traced.map_or(parts.start, |(_, places)| places[places.len() - 1])
+}
+
 /// A well-formed place for a job made of these parts.
 fn place_of(r: &mut Random, parts: &Parts, kind: PlaceKind) -> Place {
     let n = parts.n;
@@ -51,10 +59,10 @@ fn place_of(r: &mut Random, parts: &Parts, kind: PlaceKind) -> Place {
     match kind {
         PlaceKind::Start => return parts.start,
         PlaceKind::OnCurve => {
-            let traced = trace_places(&parts.opened(), r.pick(&[1, 2, 3, 5, 40]));
-            let last = traced.map_or(parts.start, |(_, places)| places[places.len() - 1]);
-            return if r.once_in(3) { last.turned() } else { last };
+            let here = on_curve(r, parts);
+            return if r.once_in(3) { here.turned() } else { here };
         }
+        PlaceKind::BesideCurve => at = on_curve(r, parts).simplex().0.facet(r.index(n + 1)),
         PlaceKind::NearStart => at = facet_near(r, n, &parts.start.facet.lowest),
         PlaceKind::NearBox => at = facet_near(r, n, &in_box),
         PlaceKind::AtFace => {
@@ -80,6 +88,8 @@ fn damage(r: &mut Random, n: usize, bytes: &mut Vec<u8>, damage: PlaceDamage) {
 /// The bytes of a place, and how they were made.
 pub struct AnyPlace {
     pub bytes: Vec<u8>,
+    /// The dimension of the job that it was made for.
+    pub made_in: usize,
     pub kind: PlaceKind,
     pub damage: PlaceDamage,
 }
@@ -90,7 +100,7 @@ pub fn any_place(r: &mut Random, parts: &Parts) -> AnyPlace {
     let mut bytes = place_of(r, parts, kind).bytes();
     let damage_done = r.named();
     damage(r, parts.n, &mut bytes, damage_done);
-    AnyPlace { bytes, kind, damage: damage_done }
+    AnyPlace { bytes, made_in: parts.n, kind, damage: damage_done }
 }
 
 /// Counts of how places were made.
@@ -102,11 +112,11 @@ pub struct PlaceTally {
 
 impl PlaceTally {
     pub fn count(&mut self, place: &AnyPlace) {
-        self.kinds.count(place.kind);
-        self.damages.count(place.damage);
+        self.kinds.count(place.made_in, place.kind);
+        self.damages.count(place.made_in, place.damage);
     }
 
-    /// Fails unless each kind and each damage was met.
+    /// Fails unless each kind and each damage was met in each dimension.
     pub fn assert_all(&self) {
         self.kinds.assert_all();
         self.damages.assert_all();
@@ -135,9 +145,9 @@ mod tests {
                 let judged = judge(&parts.bytes(), &place.bytes);
                 let answer: Answer = judged.map(|yes| if yes { "crossed" } else { "not crossed" });
                 made.count(&place);
-                malformed.count((place.damage, answer == Err(13)));
+                malformed.count(parts.n, (place.damage, answer == Err(13)));
                 if answer != Err(13) {
-                    met.entry(place.kind).or_default().count(answer);
+                    met.entry(place.kind).or_default().count(parts.n, answer);
                 }
             }
         }
@@ -155,8 +165,11 @@ mod tests {
             println!("{kind:?}");
             match kind {
                 PlaceKind::Start | PlaceKind::OnCurve => met.assert_includes(&[Ok("crossed")]),
-                PlaceKind::NearStart | PlaceKind::NearBox | PlaceKind::AtFace => {
+                PlaceKind::BesideCurve => {
                     met.assert_met(&[Ok("crossed"), Ok("not crossed"), Err(9), Err(10)])
+                }
+                PlaceKind::NearStart | PlaceKind::NearBox | PlaceKind::AtFace => {
+                    met.assert_includes(&[Ok("not crossed"), Err(9), Err(10)])
                 }
                 PlaceKind::FarOut => met.assert_includes(&[Err(9)]),
             }

@@ -3,7 +3,7 @@ use native.Mathlib.Omega.{arith}
 use borrow.Author.Needs.{needs}
 use borrow.Author.Tests.{eq-eqb, ne-eqb, le-leb, lt-leb}
 use Rattle.paper.specs.Job.{polynomialLengthOk}
-use Rattle.contents.proofs.TermLimit.{term-limit-small}
+use Rattle.paper.proofs.TermLimit.{term-limit-most}
 use Rattle.contents.proofs.entries.polynomial_length_ok.Statement.{statement}
 use Rattle.contents.proofs.entries.polynomial_length_ok.Tie as tie
 
@@ -19,7 +19,7 @@ term-limit-requires : tie.Need-term-limit-requires
 term-limit-requires c κs = search needs
 
 mul-result : tie.Need-mul-result
-mul-result c = record { fits = omega (arith, c .term-limit .ensures, term-limit-small (c .before .before .before .args .n)) }
+mul-result c = record { fits = omega (arith, c .term-limit .ensures, term-limit-most (c .before .before .before .args .n)) }
 
 returns-3 : tie.Need-returns-3
 unfolding polynomialLengthOk

@@ -1,16 +1,30 @@
--- `contents::limits::term_limit` meets its contract.
-use borrow.Author.Tests.{eq-eqb, ne-eqb}
+-- `contents::limits::term_limit` meets its contract: the array has the limit of each dimension.
+use Prim.Native.Nat.{ℕ, _-_}
+use mathlib.Core.Path.{_≡_, refl}
+use mathlib.Core.List.{[], _∷_}
+use native.Mathlib.Omega.{arith}
+use lib.ListN.{getD}
 use Rattle.paper.specs.Limits.{termLimit}
+use Rattle.bits.specs.Axes.{Axes}
+use Rattle.bits.proofs.EachDimension.{each-axes}
 use Rattle.contents.proofs.limits.term_limit.Statement.{statement}
 use Rattle.contents.proofs.limits.term_limit.Tie as tie
 
-returns : tie.Need-returns
+limit-is : (n : ℕ) → Axes n → getD (15 ∷ 35 ∷ 70 ∷ []) (n - 2) 0 ≡ termLimit n
 unfolding termLimit
-returns c = rw (eq-eqb _ _ (c .if1 .taken))
+limit-is = each-axes (λ n. getD (15 ∷ 35 ∷ 70 ∷ []) (n - 2) 0 ≡ termLimit n) refl refl refl
 
-returns-2 : tie.Need-returns-2
-unfolding termLimit
-returns-2 c = rw (ne-eqb _ _ (c .if1 .left))
+sub-result : tie.Need-sub-result
+sub-result c = c .pre .low
+
+mul-result : tie.Need-mul-result
+mul-result c = omega (arith, c .pre .high)
+
+array-read-result : tie.Need-array-read-result
+array-read-result c = omega (arith, c .pre .high)
+
+returns : tie.Need-returns
+returns c = limit-is (c .args .n) (c .pre)
 
 pub term-limit-spec : {M : Type 1} → statement M
-term-limit-spec = tie.close (tie.spec returns returns-2)
+term-limit-spec = tie.close (tie.spec sub-result mul-result array-read-result returns)

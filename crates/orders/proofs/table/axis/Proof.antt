@@ -1,68 +1,43 @@
--- `orders::table::axis` meets its contract: the arrays have the table's entries (`entry-two`, `entry-three`).
-use Prim.Native.Nat.{_<_}
-use mathlib.Core.Path.{_≡_, _∙_}
+-- `orders::table::axis` meets its contract: the array has the table's entries (`entry-is`).
+use mathlib.Core.Path.{_∙_}
 use native.Mathlib.Omega.{arith}
 use borrow.Author.Needs.{needs}
-use Rattle.orders.proofs.Tested.{rows-two, rows-three, not-two}
-use Rattle.orders.proofs.Rows.{entry-two, entry-three, axis-is}
+use Rattle.orders.proofs.Rows.{axis-is, row-inside, entry-is}
 use Rattle.orders.proofs.table.axis.Statement.{statement}
 use Rattle.orders.proofs.table.axis.Tie as tie
 
--- the row's bound in each branch
-row-two : (c : tie.Then1) → c .before .args .row < 2
-row-two c = rows-two (c .before .args .n) (c .before .args .row) (c .before .pre .0) (c .if1 .taken)
+first-requires : tie.Need-first-requires
+first-requires c κs = search needs
 
-is-three : (c : tie.Else1) → c .before .args .n ≡ 3
-is-three c = not-two (c .before .args .n) (c .before .args .row) (c .before .pre .0) (c .if1 .left)
+array-read-digit : tie.Need-array-read-digit
+array-read-digit c = row-inside (c .before .args .n) (c .before .args .row) (c .before .pre .0) (c .first .ensures)
 
-row-three : (c : tie.Else1) → c .before .args .row < 6
-row-three c = rows-three (c .before .args .n) (c .before .args .row) (c .before .pre .0) (c .if1 .left)
+add-digit : tie.Need-add-digit
+add-digit c = omega (arith, array-read-digit c)
 
-mul-wide : tie.Need-mul-wide
-mul-wide c = omega (arith, row-two c)
+mul-digit : tie.Need-mul-digit
+mul-digit c = omega (arith, array-read-digit c)
 
-add-wide : tie.Need-add-wide
-add-wide c = omega (arith, row-two c)
+add-digit-2 : tie.Need-add-digit-2
+add-digit-2 c = search needs
 
-array-read-wide : tie.Need-array-read-wide
-array-read-wide c = omega (arith, row-two c)
-
-wide-requires : tie.Need-wide-requires
-wide-requires c κs = search needs
+digit-requires : tie.Need-digit-requires
+digit-requires c κs = search needs
 
 returns : tie.Need-returns
 returns c =
     let start = c .before .before in
-    axis-is _ _ _ (start .pre .0) (start .pre .1) (c .wide .ensures ∙ entry-two _ _ _ (start .pre .0) (start .pre .1) (c .before .if1 .taken))
-
-mul-wide-2 : tie.Need-mul-wide-2
-mul-wide-2 c = omega (arith, row-three c)
-
-add-wide-2 : tie.Need-add-wide-2
-add-wide-2 c = omega (arith, row-three c, is-three c)
-
-array-read-wide-2 : tie.Need-array-read-wide-2
-array-read-wide-2 c = omega (arith, row-three c, is-three c)
-
-wide-requires-2 : tie.Need-wide-requires-2
-wide-requires-2 c κs = search needs
-
-returns-2 : tie.Need-returns-2
-returns-2 c =
-    let start = c .before .before in
-    axis-is _ _ _ (start .pre .0) (start .pre .1) (c .wide2 .ensures ∙ entry-three _ _ _ (start .pre .0) (start .pre .1) (c .before .if1 .left))
+    axis-is (start .args .n) (start .args .row) (start .args .k) (start .pre .0) (start .pre .1)
+    (c .digit .ensures ∙ entry-is (start .args .n) (start .args .row) (start .pre .0) (c .before .first .ensures) (start .args .k) (start .pre .1))
 
 pub axis-spec : {M : Type 1} → statement M
 axis-spec =
     tie.close
     (tie.spec
-    mul-wide
-    add-wide
-    array-read-wide
-    wide-requires
-    returns
-    mul-wide-2
-    add-wide-2
-    array-read-wide-2
-    wide-requires-2
-    returns-2)
+    first-requires
+    add-digit
+    mul-digit
+    array-read-digit
+    add-digit-2
+    digit-requires
+    returns)

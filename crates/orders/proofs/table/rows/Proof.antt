@@ -1,23 +1,24 @@
--- `orders::table::rows` meets its contract.
-use mathlib.Core.Path.{sym, ap, _∙_}
+-- `orders::table::rows` meets its contract: the rows of n axes end where those of the next begin (`rows-end`).
 use native.Mathlib.Omega.{arith}
-use lib.ListN.{length}
-use Rattle.curves.specs.Grid.{orders}
-use Rattle.curves.proofs.Orders.{length-orders-2, length-orders-3}
-use Rattle.orders.proofs.Tested.{length-orders-4}
+use borrow.Author.Needs.{needs}
+use Rattle.orders.proofs.Rows.{rows-end}
 use Rattle.orders.proofs.table.rows.Statement.{statement}
 use Rattle.orders.proofs.table.rows.Tie as tie
 
+add-first : tie.Need-add-first
+add-first c = search needs
+
+first-requires : tie.Need-first-requires
+first-requires c κs = search needs
+
+first-requires-2 : tie.Need-first-requires-2
+first-requires-2 c κs = search needs
+
+sub-result : tie.Need-sub-result
+sub-result c = omega (arith, c .before .first .ensures, c .first2 .ensures, rows-end (c .before .before .args .n) (c .before .before .pre))
+
 returns : tie.Need-returns
-returns c = sym (ap (λ n. length (orders n)) (c .if1 .taken) ∙ length-orders-2)
-
-returns-2 : tie.Need-returns-2
-returns-2 c = sym (ap (λ n. length (orders n)) (c .if2 .taken) ∙ length-orders-3)
-
-returns-3 : tie.Need-returns-3
-returns-3 c =
-    let start = c .before .before in
-    sym (ap (λ n. length (orders n)) (omega (arith, start .pre .low, start .pre .high, c .before .if1 .left, c .if2 .left)) ∙ length-orders-4)
+returns c = omega (arith, c .before .first .ensures, c .first2 .ensures, rows-end (c .before .before .args .n) (c .before .before .pre))
 
 pub rows-spec : {M : Type 1} → statement M
-rows-spec = tie.close (tie.spec returns returns-2 returns-3)
+rows-spec = tie.close (tie.spec add-first first-requires first-requires-2 sub-result returns)

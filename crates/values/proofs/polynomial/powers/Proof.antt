@@ -1,5 +1,5 @@
 -- `values::polynomial::powers` meets its contract: each power is the one before times the coordinate.
-use Rattle.values.proofs.Powers.{square-fits, cube-fits, fourth-fits, powers-of}
+use Rattle.values.proofs.Powers.{square-is, cube-is, fourth-is, powers-of}
 use native.Mathlib.Omega.{arith}
 use Rattle.exact.specs.Size.{Size}
 use Rattle.paper.specs.Limits.{coordinateLimit}
@@ -13,13 +13,13 @@ near : (c : tie.Else1) → Size coordinateLimit (c .before .args .x)
 near c = c .before .pre (omega (arith, c .if1 .left))
 
 mul-square : tie.Need-mul-square
-mul-square c = square-fits (near c)
+mul-square c = square-is (near c) .0
 
 mul-cube : tie.Need-mul-cube
-mul-cube c = cube-fits (near c)
+mul-cube c = cube-is (near c) .0
 
 mul-t8 : tie.Need-mul-t8
-mul-t8 c = fourth-fits (near c)
+mul-t8 c = fourth-is (near c) .0
 
 returns-2 : tie.Need-returns-2
 returns-2 c = λ l. powers-of (near c)

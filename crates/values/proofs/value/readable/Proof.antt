@@ -2,16 +2,19 @@
 use borrow.Author.Needs.{needs}
 use Rattle.exact.proofs.Bits.{back-is}
 use Rattle.paper.specs.Values.{readableSum}
-use Rattle.values.proofs.Limits.{readable-limit, sum-word}
+use Rattle.values.proofs.Limits.{sum-word}
 use Rattle.values.proofs.value.readable.Statement.{statement}
 use Rattle.values.proofs.value.readable.Tie as tie
 
 size-requires : tie.Need-size-requires
 size-requires c κs = search needs
 
+readable-limit-requires : tie.Need-readable-limit-requires
+readable-limit-requires c κs = search needs
+
 returns : tie.Need-returns
 unfolding readableSum
-returns c = rw (c .size .ensures, back-is (c .before .pre) sum-word, readable-limit (c .before .args .n))
+returns c = rw (c .before .size .ensures, back-is (c .before .before .pre) sum-word, c .readable-limit .ensures)
 
 pub readable-spec : {M : Type 1} → statement M
-readable-spec = tie.close (tie.spec size-requires returns)
+readable-spec = tie.close (tie.spec size-requires readable-limit-requires returns)

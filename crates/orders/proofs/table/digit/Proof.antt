@@ -1,0 +1,22 @@
+-- `orders::table::digit` meets its contract: it computes as the definition does.
+use mathlib.Core.Path.{refl}
+use borrow.Author.Needs.{needs}
+use Rattle.orders.specs.Table.{digitAt}
+use Rattle.orders.proofs.table.digit.Statement.{statement}
+use Rattle.orders.proofs.table.digit.Tie as tie
+
+mul-result : tie.Need-mul-result
+mul-result c = search needs
+
+sub-result : tie.Need-sub-result
+sub-result c = search needs
+
+shr-result : tie.Need-shr-result
+shr-result c = search needs
+
+returns : tie.Need-returns
+unfolding digitAt
+returns c = refl
+
+pub digit-spec : {M : Type 1} → statement M
+digit-spec = tie.close (tie.spec mul-result sub-result shr-result returns)
