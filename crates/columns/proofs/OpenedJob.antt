@@ -8,9 +8,10 @@ use lib.IntN.{ℤ}
 use lib.ListN.{length}
 use borrow.Author.Tests.{leb-true}
 use Rattle.exact.specs.Size.{Size}
-use Rattle.paper.specs.Job.{dimension, body}
+use Rattle.paper.specs.Job.{dimension, bias, body}
 use Rattle.paper.specs.Values.{readableSum, valueOf, fieldOf}
 use Rattle.paper.proofs.Bodies.{box-length, terms-high}
+use Rattle.paper.proofs.BiasedValues.{value-size}
 use Rattle.places.specs.declared.Vertex.{Vertex}
 use Rattle.places.specs.Held.{vertexAs}
 use Rattle.job.specs.OpenJob.{JobOf}
@@ -38,6 +39,6 @@ module _ {n : ℕ} {s : List ℕ} (j : JobOf n s) where
   unfolding fieldOf
   job-near v h = inside-near n (body s 0) v (job-axes j) (rw (j .dimension) (job-opens j .box)) h
 
-  pub job-value : (z : ℤ) → readableSum n z ≡ true → Size (entryLimit n) (valueOf z)
-  unfolding readableSum valueOf entryLimit
-  job-value z h = record { size = leb-true _ _ h }
+  pub job-value : (z : ℤ) → readableSum n z ≡ true → Size (entryLimit n) (valueOf (bias s) z)
+  unfolding readableSum entryLimit
+  job-value z h = value-size (bias s) z (record { size = leb-true _ _ h })

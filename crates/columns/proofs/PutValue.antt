@@ -1,5 +1,5 @@
 -- The value of one polynomial, put into a cell: the sum and the value are read from their bits, and fit them.
-use mathlib.Core.Path.{_≡_, refl, sym, ap, _∙_}
+use mathlib.Core.Path.{_≡_, refl, sym, ap, ap₂, _∙_}
 use mathlib.Core.Bool.{Bool, true, false, false≢true, true≢false}
 use mathlib.Core.List.{List}
 use Prim.Native.Nat.{ℕ}
@@ -8,16 +8,12 @@ use lib.ListN.{set}
 use Rattle.exact.specs.Size.{Size, Is}
 use Rattle.exact.proofs.Bits.{back, back-is, back-size, holds-call, is-size}
 use Rattle.curves.specs.Grid.{Vertex}
-use Rattle.paper.specs.Job.{body}
+use Rattle.paper.specs.Job.{bias, body}
 use Rattle.paper.specs.Values.{rawSum, readableSum, valueOf}
+use Rattle.paper.proofs.BiasedValues.{value-size}
 use Rattle.values.specs.Sums.{sumLimit}
 use Rattle.values.proofs.Limits.{sum-word}
 use Rattle.columns.specs.Found.{ValuePut}
-
--- the value of a sum is no larger
-value-size : {m : ℕ} {z : ℤ} → Size m z → Size m (valueOf z)
-unfolding valueOf
-value-size s = s
 
 -- a sum, passed on as its bits
 pub sum-passed : (b : List ℕ) (v : Vertex) {r : ℤ} → Is sumLimit (rawSum b v) r → Size sumLimit (back r)
@@ -34,8 +30,8 @@ module _ (s : List ℕ) (k : ℕ) (v : Vertex) {b : List ℕ} {r : ℤ} (e : b �
   pub value-refused : t ≡ false → ValuePut s n v k at before false before
   value-refused f = record { test = sym f ∙ test-is; put = λ z. absurd (false≢true z); kept = λ z. refl }
 
-  pub value-put : {z : ℤ} → t ≡ true → z ≡ valueOf (back r) → ValuePut s n v k at before true (set before at (back z))
-  value-put {z} f g =
-      let is : z ≡ valueOf (rawSum (body s k) v) = g ∙ ap valueOf sum-is in
-      let small : Size sumLimit z = rw g (value-size (back-size (is-size i) sum-word)) in
+  pub value-put : {b : ℕ} {z : ℤ} → t ≡ true → b ≡ bias s → z ≡ valueOf b (back r) → ValuePut s n v k at before true (set before at (back z))
+  value-put {b} {z} f d g =
+      let is : z ≡ valueOf (bias s) (rawSum (body s k) v) = g ∙ ap₂ valueOf d sum-is in
+      let small : Size sumLimit z = rw g (value-size b (back r) (back-size (is-size i) sum-word)) in
       record { test = sym f ∙ test-is; put = λ u. ap (set before at) (back-is small sum-word ∙ is); kept = λ u. absurd (true≢false u) }

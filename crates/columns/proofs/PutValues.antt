@@ -16,7 +16,7 @@ use Rattle.exact.specs.Crossed.{countFrom}
 use Rattle.exact.proofs.CountFrom.{map-countFrom-suc}
 use Rattle.curves.specs.Grid.{Vertex}
 use Rattle.curves.specs.Step.{column, every}
-use Rattle.paper.specs.Job.{dimension, body}
+use Rattle.paper.specs.Job.{dimension, bias, body}
 use Rattle.paper.specs.Values.{rawSum, readableSum, valueOf, sums, fieldOf}
 use Rattle.job.specs.OpenJob.{JobOf}
 use Rattle.facets.specs.Cells.{columnAt, entryLimit, Cells}
@@ -42,7 +42,7 @@ cells-set {n} {cells} at z l c s =
 pub record Putting (s : List ℕ) (n : ℕ) (v : Vertex) (i : ℕ) (before : List ℤ) (k : ℕ) (here : List ℤ) : Type 0 where
   pub cells : Cells n here
   pub tests : (q : ℕ) → q < k → readableSum n (rawSum (body s (q + 1)) v) ≡ true
-  pub entries : (q : ℕ) → q < k → getD here (3 * i + q) 0ℤ ≡ valueOf (rawSum (body s (q + 1)) v)
+  pub entries : (q : ℕ) → q < k → getD here (3 * i + q) 0ℤ ≡ valueOf (bias s) (rawSum (body s (q + 1)) v)
   pub lower : (q : ℕ) → q < 3 * i → getD here q 0ℤ ≡ getD before q 0ℤ
   pub upper : (q : ℕ) → 3 * i + k ≤ q → getD here q 0ℤ ≡ getD before q 0ℤ
 
@@ -55,7 +55,7 @@ module _ {n : ℕ} {s : List ℕ} (j : JobOf n s) {v : Vertex} {i : ℕ} {before
   -- one value more
   pub putting-next : i < 5 → r ≡ true → Putting s n v i before (k + 1) after
   putting-next u e =
-      let z : ℤ = valueOf (rawSum (body s (k + 1)) v) in
+      let z : ℤ = valueOf (bias s) (rawSum (body s (k + 1)) v) in
       let test : readableSum n (rawSum (body s (k + 1)) v) ≡ true = sym (h .test) ∙ e in
       let inner : 3 * i + k < 15 = omega (arith, g .cells .axes .high) in
       rw (h .put e) (record {
@@ -109,8 +109,8 @@ module _ {n : ℕ} {s : List ℕ} (j : JobOf n s) {v : Vertex} {i : ℕ} {before
         cells = g .cells;
         column = λ z.
             ap (λ l. 1ℤ ∷ l)
-            (same-each (λ q. getD cells (3 * i + q) 0ℤ) (λ q. valueOf (sum-at j v q)) (n - 1) (λ q m. g .entries q (omega arith))
-            ∙ sym (map-map valueOf (sum-at j v) (countFrom 0 (n - 1))) ∙ ap (map valueOf) (sym (sums-are j v)));
+            (same-each (λ q. getD cells (3 * i + q) 0ℤ) (λ q. valueOf (bias s) (sum-at j v q)) (n - 1) (λ q m. g .entries q (omega arith))
+            ∙ sym (map-map (valueOf (bias s)) (sum-at j v) (countFrom 0 (n - 1))) ∙ ap (map (valueOf (bias s))) (sym (sums-are j v)));
         lower = g .lower;
         upper = λ q m. g .upper q (omega arith);
       }

@@ -9,7 +9,7 @@ use Rattle.exact.specs.Int.{0ℤ}
 use Rattle.exact.specs.Crossed.{countFrom}
 use Rattle.curves.specs.Grid.{Vertex, Facet, facetVertices}
 use Rattle.curves.specs.Step.{Field, column, columns, every}
-use Rattle.paper.specs.Job.{body}
+use Rattle.paper.specs.Job.{bias, body}
 use Rattle.paper.specs.Values.{rawSum, readableSum, valueOf, fieldOf}
 use Rattle.paper.specs.Operations.{facetRefusal}
 use Rattle.facets.specs.Cells.{stride, columnAt, simplexColumns, facetColumns, Cells}
@@ -17,7 +17,7 @@ use Rattle.facets.specs.Cells.{stride, columnAt, simplexColumns, facetColumns, 
 -- the value of polynomial k at a vertex, put at one place of the cells if its sum is readable
 pub record ValuePut (s : List ℕ) (n : ℕ) (v : Vertex) (k at : ℕ) (before : List ℤ) (r : Bool) (after : List ℤ) : Type 0 where
   pub test : r ≡ readableSum n (rawSum (body s k) v)
-  pub put : r ≡ true → after ≡ set before at (valueOf (rawSum (body s k) v))
+  pub put : r ≡ true → after ≡ set before at (valueOf (bias s) (rawSum (body s k) v))
   pub kept : r ≡ false → after ≡ before
 
 -- the values of a vertex, put in as those of vertex i if its sums are readable; the cells of the other vertices stay

@@ -32,7 +32,7 @@ fn put_value(job: &[u8], n: usize, v: Vertex, k: usize, at: usize, cells: &mut [
     if !value::readable(n, sum) {
         return false;
     }
-    let found = value::value_of(sum);
+    let found = value::value_of(job::opened_bias(job), sum);
     cells[at] = found;
     true
 }

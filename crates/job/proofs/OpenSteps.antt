@@ -23,7 +23,6 @@ use Rattle.job.specs.PartOffset.{partOffset}
 pub record HeadRight (n : ℕ) (s : List ℕ) : Type 0 where
   pub long : 4 ≤ length s
   pub mark : byte s 0 ≡ 1
-  pub nought : byte s 3 ≡ 0
   pub is : n ≡ byte s 1
 
 pub refuse-short : (s : List ℕ) → length s < 4 → 1 ≡ openRefusal s
@@ -34,24 +33,20 @@ pub refuse-mark : (s : List ℕ) → 4 ≤ length s → (byte s 0 ≡ 1 → ⊥)
 unfolding openRefusal refuseIf
 refuse-mark s l h = rw (le-ltb _ _ l, ne-eqb _ _ h)
 
-pub refuse-nought : (s : List ℕ) → 4 ≤ length s → byte s 0 ≡ 1 → (byte s 3 ≡ 0 → ⊥) → 2 ≡ openRefusal s
-unfolding openRefusal refuseIf
-refuse-nought s l e h = rw (le-ltb _ _ l, eq-eqb _ _ e, ne-eqb _ _ h)
-
 module _ {n : ℕ} {s : List ℕ} (r : HeadRight n s) where
   pub refuse-dimension : dimensionOk n ≡ false → 3 ≡ openRefusal s
   unfolding openRefusal refuseIf dimension
-  refuse-dimension t = rw (le-ltb _ _ (r .long), eq-eqb _ _ (r .mark), eq-eqb _ _ (r .nought), ← r .is, t)
+  refuse-dimension t = rw (le-ltb _ _ (r .long), eq-eqb _ _ (r .mark), ← r .is, t)
 
   pub refuse-count : {m : ℕ} → dimensionOk n ≡ true → m ≡ byte s 2 → (m ≡ n + 1 → ⊥) → 4 ≡ openRefusal s
   unfolding openRefusal refuseIf dimension
   refuse-count t e h =
-      rw (le-ltb _ _ (r .long), eq-eqb _ _ (r .mark), eq-eqb _ _ (r .nought), ← r .is, t, ne-eqb _ _ (λ g. h (e ∙ g)))
+      rw (le-ltb _ _ (r .long), eq-eqb _ _ (r .mark), ← r .is, t, ne-eqb _ _ (λ g. h (e ∙ g)))
 
   -- what is left is 5 to 8
   pub head-passes : {m : ℕ} → dimensionOk n ≡ true → m ≡ byte s 2 → m ≡ n + 1 → bodiesRefusal n s ≡ openRefusal s
   unfolding openRefusal refuseIf dimension
-  head-passes t e h = rw (le-ltb _ _ (r .long), eq-eqb _ _ (r .mark), eq-eqb _ _ (r .nought), ← r .is, t, eq-eqb _ _ (sym e ∙ h))
+  head-passes t e h = rw (le-ltb _ _ (r .long), eq-eqb _ _ (r .mark), ← r .is, t, eq-eqb _ _ (sym e ∙ h))
 
 -- ---- refusals 5 to 8
 

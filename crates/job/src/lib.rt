@@ -8,7 +8,7 @@ use paper::Opened;
 ghost use mathlib.Core.Path.{_≡_};
 ghost use mathlib.Core.Bool.{true, false};
 ghost use Prim.Native.Nat.{_+_, _-_, _≤_, _<_};
-ghost use Rattle.paper.specs.Job.{dimension, entryOffset, body, contentsOk, allFrom, polynomialOk, openRefusal};
+ghost use Rattle.paper.specs.Job.{dimension, bias, entryOffset, body, contentsOk, allFrom, polynomialOk, openRefusal};
 ghost use Rattle.paper.specs.Operations.{opened, polynomialTerms, bodyRefusal, bodyPart};
 ghost use Rattle.paper.specs.Answers.{openedAs};
 ghost use Rattle.bits.specs.Axes.{Axes};
@@ -61,9 +61,6 @@ pub fn open_refusal(job: &[u8]) -> u64
     if read::byte(job, 0) != 1 {
         return 2;
     }
-    if read::byte(job, 3) != 0 {
-        return 2;
-    }
     let n = read::byte(job, 1) as usize;
     if !limits::dimension_ok(n) {
         return 3;
@@ -80,6 +77,14 @@ pub fn opened_dimension(job: &[u8]) -> usize
     ensures { λ r. ⌜ r ≡ dimension (now (job .entry)) ⌝ }
 {
     read::byte(job, 1) as usize
+}
+
+// The bias of a job that opens.
+pub fn opened_bias(job: &[u8]) -> u64
+    requires { ⌜ openRefusal (now job) ≡ 0 ⌝ }
+    ensures { λ r. ⌜ r ≡ bias (now (job .entry)) ⌝ }
+{
+    read::byte(job, 3)
 }
 
 // Body k of a job that opens.

@@ -114,7 +114,7 @@ unfolding Int._⊕_ Int.neg Int._⊖_ Int._⊗_ Int.power
     Bytes.wordBytes
     Limits.dimensionOk Limits.coordinateLimit Limits.termLimit Limits.coefficientLimit Limits.degreeLimit
     Limits.readableLimit Limits.stepsPerUnit
-    Job.dimension Job.entryOffset Job.entryLength Job.contentsEnd Job.polynomialLengthOk Job.lengthOk Job.entriesOk
+    Job.dimension Job.bias Job.entryOffset Job.entryLength Job.contentsEnd Job.polynomialLengthOk Job.lengthOk Job.entriesOk
     Job.contentsOk Job.body Job.lowEnd Job.highEnd Job.axisOk Job.allFrom Job.boxOk Job.termCount Job.coefficientOf
     Job.exponentOf Job.exponentsZero Job.degree Job.termOk Job.exponentWeight Job.rises Job.polynomialOk Job.decodePlace
     Job.vertexBytes Job.encodePlace Job.withStart Job.refuseIf Job.openRefusal

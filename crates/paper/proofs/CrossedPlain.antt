@@ -19,7 +19,7 @@ use Rattle.exact.proofs.Crossed2.{facet2, OneAbove, crossed-two}
 use Rattle.curves.specs.Grid.{Vertex, Facet, plus, facetVertices, chain, lastMask, facetOk}
 use Rattle.curves.specs.Step.{column, columns, crossedFacet}
 use Rattle.paper.specs.Bytes.{byte, signedWord}
-use Rattle.paper.specs.Job.{dimension, body, decodePlace}
+use Rattle.paper.specs.Job.{dimension, bias, body, decodePlace}
 use Rattle.paper.specs.Values.{rawSum, valueOf, sums, fieldOf}
 use Rattle.paper.specs.Operations.{answered, crossedIn, facetOf, judgeRefusal, judged}
 use Rattle.paper.proofs.Refusals.{answered-inv, unless-answered}
@@ -66,7 +66,7 @@ one-above x y = (there, back)
 
 -- the value at a vertex of the polynomial of a job of dimension 2
 abbrev pub valueAt : List ℕ → Vertex → ℤ
-valueAt s v = valueOf (rawSum (body s 1) v)
+valueAt s v = valueOf (bias s) (rawSum (body s 1) v)
 
 -- the vertex that is not the lowest
 abbrev pub highVertex : Facet → Vertex

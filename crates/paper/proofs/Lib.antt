@@ -13,6 +13,7 @@ pub mod ShortPlaces
 pub mod WordBytes
 pub mod Encode
 pub mod WithStart
+pub mod BiasedValues
 pub mod StartTraceable
 pub mod PlacesWritten
 pub mod CurveCounted

@@ -1,23 +1,22 @@
 -- What a job has if Open does not refuse it: the eight tests, each as a fact.
 use mathlib.Core.Path.{_≡_}
-use mathlib.Core.Bool.{true, not}
+use mathlib.Core.Bool.{true}
 use mathlib.Core.List.{List}
 use Prim.Native.Nat.{ℕ, _+_, _-_, _≤_, _<_}
 use native.Mathlib.Omega.{arith}
-use lib.Dec.{eqb, lit<}
+use lib.Dec.{lit<}
 use lib.ListN.{length}
 use borrow.Author.Tests.{ltb-false, eqb-true, not-false}
 use Rattle.curves.specs.Grid.{placeOk}
 use Rattle.paper.specs.Bytes.{byte}
 use Rattle.paper.specs.Limits.{dimensionOk}
 use Rattle.paper.specs.Job.{dimension, contentsOk, body, boxOk, polynomialOk, decodePlace, openRefusal}
-use Rattle.paper.proofs.Tests.{or-false-left, or-false-right, all-at, DimensionRange, dimension-range}
+use Rattle.paper.proofs.Tests.{all-at, DimensionRange, dimension-range}
 use Rattle.paper.proofs.Refusals.{not-refused}
 
 pub record Opens (s : List ℕ) : Type 0 where
   pub long : 4 ≤ length s
   pub mark : byte s 0 ≡ 1
-  pub nought : byte s 3 ≡ 0
   pub dimensions : dimensionOk (dimension s) ≡ true
   pub entries : byte s 2 ≡ dimension s + 1
   pub contents : contentsOk (dimension s) s ≡ true
@@ -38,8 +37,7 @@ opens s h =
     let r8 = not-refused _ _ _ (lit< tt) (r7 .next) in
     record {
       long = ltb-false _ _ (r1 .test);
-      mark = eqb-true _ _ (not-false _ (or-false-left (not (eqb (byte s 0) 1)) (not (eqb (byte s 3) 0)) (r2 .test)));
-      nought = eqb-true _ _ (not-false _ (or-false-right (not (eqb (byte s 0) 1)) (not (eqb (byte s 3) 0)) (r2 .test)));
+      mark = eqb-true _ _ (not-false _ (r2 .test));
       dimensions = not-false _ (r3 .test);
       entries = eqb-true _ _ (not-false _ (r4 .test));
       contents = not-false _ (r5 .test);

@@ -1,6 +1,6 @@
--- Boolean tests taken apart: `||`, a test that holds for each number of a range, and the range of the dimensions.
+-- Boolean tests taken apart: a test that holds for each number of a range, and the range of the dimensions.
 use mathlib.Core.Path.{_≡_, refl, subst}
-use mathlib.Core.Bool.{Bool, true, false, _||_, true≢false}
+use mathlib.Core.Bool.{Bool, true, false}
 use Prim.Native.Nat.{ℕ, suc, zero, _+_, _≤_, _<_}
 use native.Mathlib.Omega.{arith}
 use lib.Dec.{eqb, leb}
@@ -8,16 +8,6 @@ use borrow.Author.Tests.{eqb-true, eqb-false, leb-true}
 use Rattle.exact.proofs.AndTests.{and-left, and-right, and-true}
 use Rattle.paper.specs.Limits.{dimensionOk}
 use Rattle.paper.specs.Job.{allFrom}
-
--- ---- or
-
-pub or-false-left : (a b : Bool) → (a || b) ≡ false → a ≡ false
-or-false-left true b h = h
-or-false-left false b h = refl
-
-pub or-false-right : (a b : Bool) → (a || b) ≡ false → b ≡ false
-or-false-right true b h = absurd (true≢false h)
-or-false-right false b h = h
 
 -- ---- every number of a range
 

@@ -1,4 +1,4 @@
--- A job with another place as its start: it opens as the job does, its dimension and every body but the last are the
+-- A job with another place as its start: it opens as the job does, its dimension, its bias and every body but the last are the
 -- job's, and its start is the place. So its values, box and readable vertices are the job's.
 use Prim.Native.Nat.{ℕ, suc, zero, _+_, _*_, _-_, _≤_, _<_}
 use native.Mathlib.Omega.{arith}
@@ -12,7 +12,7 @@ use Rattle.exact.specs.Crossed.{countFrom}
 use Rattle.curves.specs.Grid.{Vertex, Place, placeOk}
 use Rattle.curves.specs.Step.{every}
 use Rattle.paper.specs.Bytes.{byte, word}
-use Rattle.paper.specs.Job.{dimension, entryOffset, entryLength, contentsEnd, entriesOk, contentsOk, body, decodePlace, encodePlace, withStart, openRefusal}
+use Rattle.paper.specs.Job.{dimension, bias, entryOffset, entryLength, contentsEnd, entriesOk, contentsOk, body, decodePlace, encodePlace, withStart, openRefusal}
 use Rattle.paper.specs.Values.{rawSum, valueOf, readableSum, sums, insideFrom, fieldOf}
 use Rattle.paper.specs.Operations.{startOf}
 use Rattle.paper.proofs.ShortPlaces.{shortPlace}
@@ -28,7 +28,7 @@ pub opens-back : (s : List ℕ) → Opens s → openRefusal s ≡ 0
 unfolding openRefusal
 opens-back s o =
     refuse-later 1 _ (le-ltb (length s) 4 (o .long))
-    ∙ (refuse-later 2 _ (rw (eq-eqb (byte s 0) 1 (o .mark), eq-eqb (byte s 3) 0 (o .nought)))
+    ∙ (refuse-later 2 _ (ap not (eq-eqb (byte s 0) 1 (o .mark)))
     ∙ (refuse-later 3 _ (ap not (o .dimensions))
     ∙ (refuse-later 4 _ (ap not (eq-eqb (byte s 2) (dimension s + 1) (o .entries)))
     ∙ (refuse-later 5 _ (ap not (o .contents))
@@ -106,6 +106,10 @@ module _ {s : List ℕ} (o : Opens s) (p : Place) where
   unfolding contentsEnd dimension
   withStart-dimension = contents-byte 1 (omega arith)
 
+  pub withStart-bias : bias (withStart s p) ≡ bias s
+  unfolding contentsEnd bias
+  withStart-bias = contents-byte 3 (omega arith)
+
   withStart-offset : (k : ℕ) → k ≤ dimension s → entryOffset (withStart s p) k ≡ entryOffset s k
   unfolding contentsEnd entryOffset word
   withStart-offset k l = rw (contents-byte (4 * k + 4) (omega arith), contents-byte (4 * k + 4 + 1) (omega arith))
@@ -162,7 +166,6 @@ module _ {s : List ℕ} (o : Opens s) (p : Place) where
           record {
             long = omega (arith, withStart-length, o .long);
             mark = contents-byte 0 (omega arith) ∙ o .mark;
-            nought = contents-byte 3 (omega arith) ∙ o .nought;
             dimensions = rw withStart-dimension (o .dimensions);
             entries = rw withStart-dimension (contents-byte 2 (omega arith) ∙ o .entries);
             contents = rw withStart-dimension withStart-contents;
@@ -179,13 +182,15 @@ unfolding countFrom
 map-same f g k zero h = refl
 map-same f g k (suc m) h = rw (h k (omega arith) (omega arith), map-same f g (suc k) m (λ i l u. h i (omega arith) (omega arith)))
 
--- the values, the box and the readable vertices come from the dimension and the bodies in front of the start
-field-same : (s t : List ℕ) → 0 < dimension s → dimension t ≡ dimension s → ((k : ℕ) → k < dimension s → body t k ≡ body s k) → fieldOf t ≡ fieldOf s
+-- the values, the box and the readable vertices come from the dimension, the bias and the bodies in front of the start
+field-same :
+    (s t : List ℕ) → 0 < dimension s → dimension t ≡ dimension s → bias t ≡ bias s
+    → ((k : ℕ) → k < dimension s → body t k ≡ body s k) → fieldOf t ≡ fieldOf s
 unfolding fieldOf
-field-same s t p e f =
+field-same s t p e g f =
     λ i.
     record {
-      value = λ v. map valueOf (same v i);
+      value = λ v. map (valueOf (g i)) (same v i);
       inBox = insideFrom (f 0 p i) 0;
       readable = λ v. every (readableSum (e i)) (same v i);
     }
@@ -197,7 +202,7 @@ field-same s t p e f =
 
 pub withStart-field : {s : List ℕ} → Opens s → (p : Place) → fieldOf (withStart s p) ≡ fieldOf s
 withStart-field {s} o p =
-    field-same s (withStart s p) (omega (arith, opens-range o .low)) (withStart-dimension o p) (withStart-body o p)
+    field-same s (withStart s p) (omega (arith, opens-range o .low)) (withStart-dimension o p) (withStart-bias o p) (withStart-body o p)
 
 -- a job is that with its own start as its start
 pub withStart-own : {s : List ℕ} → Opens s → ((i : ℕ) → byte s i < 256) → withStart s (startOf s) ≡ s

@@ -18,6 +18,10 @@ use Rattle.paper.specs.Limits.{dimensionOk, coordinateLimit, termLimit, 
 unfoldable pub dimension : List ℕ → ℕ
 dimension s = byte s 1
 
+-- byte 3, from 0 to 255: a value no larger in size counts as 0 (request 2.7)
+unfoldable pub bias : List ℕ → ℕ
+bias s = byte s 3
+
 -- entry k of the contents: offset from byte 0 and length
 unfoldable pub entryOffset : List ℕ → ℕ → ℕ
 entryOffset s k = word s (4 * k + 4)
@@ -143,7 +147,7 @@ refuseIf false k rest = rest
 unfoldable pub openRefusal : List ℕ → ℕ
 openRefusal s =
     refuseIf (ltb (length s) 4) 1
-    (refuseIf (not (eqb (byte s 0) 1) || not (eqb (byte s 3) 0)) 2
+    (refuseIf (not (eqb (byte s 0) 1)) 2
     (refuseIf (not (dimensionOk (dimension s))) 3
     (refuseIf (not (eqb (byte s 2) (dimension s + 1))) 4
     (refuseIf (not (contentsOk (dimension s) s)) 5

@@ -9,3 +9,4 @@ pub mod Answers
 pub mod Pen
 pub mod Listing
 pub mod Demand3
+pub mod Bias

@@ -1,4 +1,4 @@
--- Values at vertices, readable values and points: document 01, section "Crossed".
+-- Values at vertices, readable values and points: document 01, section "Crossed", and the bias of request 2.7.
 use Prim.Native.Nat.{ℕ, suc, zero, _+_, _-_, _/_, _%_, _^_}
 use mathlib.Core.Bool.{Bool, true, cond, _&&_}
 use mathlib.Core.List.{List, [], _∷_, map}
@@ -11,7 +11,7 @@ use Rattle.exact.specs.Crossed.{countFrom, coefficient}
 use Rattle.curves.specs.Grid.{Vertex, Facet, facetVertices}
 use Rattle.curves.specs.Step.{Field, columns, every}
 use Rattle.paper.specs.Limits.{readableLimit, stepsPerUnit}
-use Rattle.paper.specs.Job.{dimension, body, lowEnd, highEnd, coefficientOf, exponentOf, termCount}
+use Rattle.paper.specs.Job.{dimension, bias, body, lowEnd, highEnd, coefficientOf, exponentOf, termCount}
 
 -- ---- the polynomial's exact sum
 
@@ -36,9 +36,9 @@ rawSum b v = sumFrom b v 0 (termCount b)
 unfoldable pub readableSum : ℕ → ℤ → Bool
 readableSum n z = leb (natAbs z) (readableLimit n)
 
--- the value that judging, stepping and points go by
-unfoldable pub valueOf : ℤ → ℤ
-valueOf z = z
+-- the value that judging, stepping and points go by, of a readable sum: 0 if the sum is no larger in size than the bias
+unfoldable pub valueOf : ℕ → ℤ → ℤ
+valueOf bias z = cond (leb (natAbs z) bias) 0ℤ z
 
 -- ---- the job's values, box and readable vertices
 
@@ -53,7 +53,7 @@ insideFrom b a (x ∷ v) = leZ (lowEnd b a) x && (leZ x (highEnd b a) && insideF
 
 unfoldable pub fieldOf : List ℕ → Field
 fieldOf s = record {
-  value = λ v. map valueOf (sums s v);
+  value = λ v. map (valueOf (bias s)) (sums s v);
   inBox = insideFrom (body s 0) 0;
   readable = λ v. every (readableSum (dimension s)) (sums s v);
 }

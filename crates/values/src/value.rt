@@ -1,4 +1,4 @@
-// Readable sums and values: document 01, section "Crossed".
+// Readable sums and values: document 01, section "Crossed", and the bias of request 2.7.
 ghost use mathlib.Core.Path.{_≡_};
 ghost use Rattle.exact.specs.Size.{Size};
 ghost use Rattle.paper.specs.Limits.{readableLimit};
@@ -24,10 +24,13 @@ pub fn readable(n: usize, z: i64) -> bool
     read::size(z) <= readable_limit(n)
 }
 
-// The value that judging, stepping and points go by: the sum itself.
-pub fn value_of(z: i64) -> i64
+// The value that judging, stepping and points go by: the sum, or 0 if it is no larger in size than the bias.
+pub fn value_of(bias: u64, z: i64) -> i64
     requires { ⌜ Size sumLimit z ⌝ }
-    ensures { λ r. ⌜ r ≡ valueOf z ⌝ }
+    ensures { λ r. ⌜ r ≡ valueOf bias z ⌝ }
 {
+    if read::size(z) <= bias {
+        return 0;
+    }
     z
 }

@@ -5,22 +5,21 @@ use borrow.Author.Needs.{needs}
 use Rattle.paper.specs.Limits.{dimensionOk}
 use Rattle.paper.proofs.RangeSteps.{test-failed, test-passed}
 use Rattle.bits.proofs.EachDimension.{dimension-axes}
-use Rattle.job.proofs.OpenSteps.{HeadRight, refuse-short, refuse-mark, refuse-nought, refuse-dimension, refuse-count, head-passes}
+use Rattle.job.proofs.OpenSteps.{HeadRight, refuse-short, refuse-mark, refuse-dimension, refuse-count, head-passes}
 use Rattle.job.proofs.open_refusal.Statement.{statement}
 use Rattle.job.proofs.open_refusal.Tie as tie
 
 -- ---- what the tests showed
 
-head : (c : tie.After-byte3) → HeadRight (c .byte3 .result) (c .before .before .before .before .before .before .before .args .job .now)
+head : (c : tie.After-byte2) → HeadRight (c .byte2 .result) (c .before .before .before .before .before .args .job .now)
 head c = record {
-  long = c .before .before .before .before .before .if1 .left;
-  mark = sym (c .before .before .before .before .byte .ensures .is) ∙ c .before .before .before .if2 .left;
-  nought = sym (c .before .before .byte2 .ensures .is) ∙ c .before .if3 .left;
-  is = c .byte3 .ensures .is;
+  long = c .before .before .before .if1 .left;
+  mark = sym (c .before .before .byte .ensures .is) ∙ c .before .if2 .left;
+  is = c .byte2 .ensures .is;
 }
 
-dimension-right : (c : tie.Else4) → dimensionOk (c .before .before .byte3 .result) ≡ true
-dimension-right c = test-passed (c .before .dimension-ok .ensures) (c .if4 .left)
+dimension-right : (c : tie.Else3) → dimensionOk (c .before .before .byte2 .result) ≡ true
+dimension-right c = test-passed (c .before .dimension-ok .ensures) (c .if3 .left)
 
 -- ---- the needs
 
@@ -36,36 +35,28 @@ returns-2 c = refuse-mark _ (c .before .before .if1 .left) (λ h. c .if2 .taken 
 byte-requires-2 : tie.Need-byte-requires-2
 byte-requires-2 c κs = search needs
 
+dimension-ok-requires : tie.Need-dimension-ok-requires
+dimension-ok-requires c κs = search needs
+
 returns-3 : tie.Need-returns-3
-returns-3 c =
-    refuse-nought _ (c .before .before .before .before .if1 .left) (sym (c .before .before .before .byte .ensures .is) ∙ c .before .before .if2 .left)
-    (λ h. c .if3 .taken (c .before .byte2 .ensures .is ∙ h))
+returns-3 c = refuse-dimension (head (c .before .before)) (test-failed (c .before .dimension-ok .ensures) (c .if3 .taken))
 
 byte-requires-3 : tie.Need-byte-requires-3
 byte-requires-3 c κs = search needs
 
-dimension-ok-requires : tie.Need-dimension-ok-requires
-dimension-ok-requires c κs = search needs
+add-if4 : tie.Need-add-if4
+add-if4 c = search needs
 
 returns-4 : tie.Need-returns-4
-returns-4 c = refuse-dimension (head (c .before .before)) (test-failed (c .before .dimension-ok .ensures) (c .if4 .taken))
-
-byte-requires-4 : tie.Need-byte-requires-4
-byte-requires-4 c κs = search needs
-
-add-if5 : tie.Need-add-if5
-add-if5 c = search needs
-
-returns-5 : tie.Need-returns-5
-returns-5 c = refuse-count (head (c .before .before .before .before)) (dimension-right (c .before .before)) (c .before .byte4 .ensures .is) (c .if5 .taken)
+returns-4 c = refuse-count (head (c .before .before .before .before)) (dimension-right (c .before .before)) (c .before .byte3 .ensures .is) (c .if4 .taken)
 
 bodies-refusal-requires : tie.Need-bodies-refusal-requires
 bodies-refusal-requires c κs = dimension-axes _ (dimension-right (c .before .before))
 
-returns-6 : tie.Need-returns-6
-returns-6 c =
+returns-5 : tie.Need-returns-5
+returns-5 c =
     c .bodies-refusal .ensures
-    ∙ head-passes (head (c .before .before .before .before .before)) (dimension-right (c .before .before .before)) (c .before .before .byte4 .ensures .is) (c .before .if5 .left)
+    ∙ head-passes (head (c .before .before .before .before .before)) (dimension-right (c .before .before .before)) (c .before .before .byte3 .ensures .is) (c .before .if4 .left)
 
 pub open-refusal-spec : {M : Type 1} → statement M
 open-refusal-spec =
@@ -75,12 +66,10 @@ open-refusal-spec =
     byte-requires
     returns-2
     byte-requires-2
+    dimension-ok-requires
     returns-3
     byte-requires-3
-    dimension-ok-requires
+    add-if4
     returns-4
-    byte-requires-4
-    add-if5
-    returns-5
     bodies-refusal-requires
-    returns-6)
+    returns-5)

@@ -1,4 +1,4 @@
--- `columns::field::put_value` meets its contract: body k is the polynomial.
+-- `columns::field::put_value` meets its contract: body k is the polynomial, and the bias is the job's.
 use native.Mathlib.Omega.{arith}
 use borrow.Author.Needs.{needs}
 use borrow.Author.Tests.{not-true, not-false}
@@ -22,20 +22,24 @@ returns : tie.Need-returns
 returns c =
     value-refused _ _ _ (c .before .before .before .opened-body .ensures .1) (c .before .before .raw-sum .ensures) _ _ _ (c .before .readable .ensures) (not-true _ (c .if1 .taken))
 
+opened-bias-requires : tie.Need-opened-bias-requires
+opened-bias-requires c κs = c .before .before .before .before .before .pre .0 .0 .opens
+
 value-of-requires : tie.Need-value-of-requires
-value-of-requires c κs = sum-passed _ _ (c .before .before .raw-sum .ensures)
+value-of-requires c κs = sum-passed _ _ (c .before .before .before .raw-sum .ensures)
 
 mul-found : tie.Need-mul-found
 mul-found c = search needs
 
 element-set-from-found : tie.Need-element-set-from-found
-element-set-from-found c = c .before .before .before .before .before .before .pre .1 .1 .1
+element-set-from-found c = c .before .before .before .before .before .before .before .pre .1 .1 .1
 
 returns-2 : tie.Need-returns-2
 returns-2 c =
-    let body = c .before .before .before .before .opened-body .ensures .1 in
-    let sum = c .before .before .before .raw-sum .ensures in
-    value-put _ _ _ body sum _ _ _ (c .before .before .readable .ensures) (not-false _ (c .before .if1 .left)) (c .value-of .ensures)
+    let body = c .before .before .before .before .before .opened-body .ensures .1 in
+    let sum = c .before .before .before .before .raw-sum .ensures in
+    value-put _ _ _ body sum _ _ _ (c .before .before .before .readable .ensures) (not-false _ (c .before .before .if1 .left))
+    (c .before .opened-bias .ensures) (c .value-of .ensures)
 
 pub put-value-spec : {M : Type 1} → statement M
 put-value-spec =
@@ -45,6 +49,7 @@ put-value-spec =
     raw-sum-requires
     readable-requires
     returns
+    opened-bias-requires
     value-of-requires
     mul-found
     element-set-from-found
