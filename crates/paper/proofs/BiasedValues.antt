@@ -6,12 +6,14 @@ use native.Mathlib.Nat.{le-trans}
 use mathlib.Core.Path.{_≡_, refl, sym, ap, subst, _∙_}
 use mathlib.Core.Bool.{Bool, true, false, not}
 use mathlib.Core.Logic.{_↔_}
+use mathlib.Core.List.{List, [], _∷_, map}
 use lib.IntN.{ℤ, pos, negsuc, natAbs}
 use lib.Dec.{T, leb, lt→ltb, ltb→lt}
 use lib.Signed.{_≤ℤ_, _<ℤ_, ltZ, ltZ-no, clashℤ}
 use borrow.Author.Tests.{leb-true, leb-false, le-leb, lt-leb}
 use Rattle.exact.specs.Int.{0ℤ}
 use Rattle.exact.specs.Size.{Size}
+use Rattle.curves.specs.Step.{every}
 use Rattle.paper.specs.Values.{readableSum, valueOf}
 use Rattle.paper.specs.Limits.{readableLimit}
 
@@ -73,7 +75,7 @@ value-not-above b z = (λ h. not-below (λ l. clashℤ (value-above b z .1 l) h)
 -- ---- readable
 
 -- a bias within the readable limit makes no sum readable, and none unreadable: the order of the two tests cannot be told
-pub readable-value : (n b : ℕ) (z : ℤ) → b ≤ readableLimit n → readableSum n (valueOf b z) ≡ readableSum n z
+readable-value : (n b : ℕ) (z : ℤ) → b ≤ readableLimit n → readableSum n (valueOf b z) ≡ readableSum n z
 readable-value n b z h = go (leb (natAbs z) b) refl
   where
     small : natAbs z ≤ b → readableSum n 0ℤ ≡ readableSum n z
@@ -83,3 +85,8 @@ readable-value n b z h = go (leb (natAbs z) b) refl
     go : (t : Bool) → leb (natAbs z) b ≡ t → readableSum n (valueOf b z) ≡ readableSum n z
     go true e = ap (readableSum n) (value-small b z (leb-true _ _ e)) ∙ small (leb-true _ _ e)
     go false e = ap (readableSum n) (value-large b z (leb-false _ _ e))
+
+pub readable-values : (n b : ℕ) → b ≤ readableLimit n → (zs : List ℤ) → every (readableSum n) (map (valueOf b) zs) ≡ every (readableSum n) zs
+unfolding every
+readable-values n b h [] = refl
+readable-values n b h (z ∷ zs) = rw (readable-value n b z h, readable-values n b h zs)

@@ -65,6 +65,17 @@ entries-from n s (suc m) k at j r h e l =
         subst (λ (x : ℕ). EntryOk n s r x (entryOffset s x)) same (subst (λ (x : ℕ). EntryOk n s x k (entryOffset s k)) left here)
     go f rest false w = rest (omega arith) (omega (arith, eqb-false k j w))
 
+-- no entry from entry k on begins before entry k does
+entries-behind : (n : ℕ) (s : List ℕ) (m k at j : ℕ) → entriesOk n s m k at ≡ true → k ≤ j → j < k + m → at ≤ entryOffset s j
+entries-behind n s zero k at j h l u = absurd (omega arith)
+entries-behind n s (suc m) k at j h l u =
+    let f = entries-first n s m k at h in
+    go (f .begins) (entries-behind n s m (k + 1) (at + entryLength s k) j (f .later)) (eqb k j) refl
+  where
+    go : entryOffset s k ≡ at → (k + 1 ≤ j → j < k + 1 + m → at + entryLength s k ≤ entryOffset s j) → (b : Bool) → eqb k j ≡ b → at ≤ entryOffset s j
+    go e rest true w = let same : entryOffset s j ≡ at = subst (λ (x : ℕ). entryOffset s x ≡ at) (eqb-true k j w) e in omega arith
+    go e rest false w = omega (arith, rest (omega (arith, eqb-false k j w)) (omega arith))
+
 -- ---- the bodies of contents that are right
 
 contents-entries : (n : ℕ) (s : List ℕ) → contentsOk n s ≡ true → entriesOk n s (n + 1) 0 (contentsEnd n) ≡ true
@@ -78,6 +89,10 @@ contents-entry n s k h l =
 
 pub contents-inside : (n : ℕ) (s : List ℕ) (k : ℕ) → contentsOk n s ≡ true → k ≤ n → entryOffset s k + entryLength s k ≤ length s
 contents-inside n s k h l = entries-inside n s (n - k) (k + 1) _ (contents-entry n s k h l .later)
+
+-- each body begins behind the contents
+pub contents-before : (n : ℕ) (s : List ℕ) (k : ℕ) → contentsOk n s ≡ true → k ≤ n → contentsEnd n ≤ entryOffset s k
+contents-before n s k h l = entries-behind n s (n + 1) 0 (contentsEnd n) k (contents-entries n s h) (omega arith) (omega arith)
 
 pub contents-long : (n : ℕ) (s : List ℕ) → contentsOk n s ≡ true → contentsEnd n ≤ length s
 unfolding contentsOk

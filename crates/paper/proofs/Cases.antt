@@ -27,7 +27,7 @@ use Rattle.paper.specs.Job.{openRefusal, entryOffset, dimension, withSta
 use Rattle.paper.specs.Values as Values
 use Rattle.paper.specs.Values.{fieldOf}
 use Rattle.paper.specs.Operations as Operations
-use Rattle.paper.specs.Operations.{Answer, refused, answered, judged, pointed, traced}
+use Rattle.paper.specs.Operations.{Answer, refused, answered, judged, pointed, traced, verdictAndCount}
 use Rattle.paper.specs.Listing as Listing
 use Rattle.paper.specs.Listing.{listing}
 use Rattle.paper.specs.Answers as Answers
@@ -124,6 +124,7 @@ unfolding Int._⊕_ Int.neg Int._⊖_ Int._⊗_ Int.power
     Operations.unless Operations.firstRefusal Operations.facetRefusal Operations.crossedIn Operations.placeBad
     Operations.facetOf Operations.judgeRefusal Operations.judged Operations.pointRefusal Operations.pointed
     Operations.stepIn Operations.startOf Operations.traceRefusal Operations.onSameFacet Operations.traced
+    Operations.verdictAndCount
     Listing.decimalFrom Listing.decimal Listing.signedDecimal Listing.blankNumbers Listing.numberLine Listing.verdictWord
     Listing.firstLine Listing.placeNumbers Listing.placeLine Listing.placeLines Listing.listingSpace Listing.longestJob
     Listing.listingLines Listing.listing
@@ -144,6 +145,8 @@ pub data Row : Type 0 where
   refusesPoint : List ℕ → List ℕ → ℕ → Row
   -- Trace's verdict and places, with space for so many
   traces : List ℕ → ℕ → Verdict Stop → List Place → Row
+  -- its verdict and count alone
+  counts : List ℕ → ℕ → Verdict Stop → ℕ → Row
   -- the lines that the program prints for a job
   prints : List ℕ → List String → Row
   -- the polynomials' values at a vertex
@@ -159,6 +162,7 @@ Holds (judges s p a) = judged s p ≡ a
 Holds (points s p v) = pointed s p ≡ answered v
 Holds (refusesPoint s p k) = pointed s p ≡ refused k
 Holds (traces s k v ps) = traced s k ≡ answered record { verdict = v; places = ps }
+Holds (counts s k v m) = verdictAndCount (traced s k) ≡ answered (v, m)
 Holds (prints s ls) = listing s ≡ lines ls
 Holds (values s v zs) = fieldOf s .value v ≡ zs
 Holds (pens s ps mark k m) = penned s ps mark k ≡ answered m

@@ -1,5 +1,6 @@
 -- "Crossed" in plain words for a job of dimension 2: one value is above 0 and the other is 0 or below. The values are the
--- polynomial's at the facet's two vertices, and the last theorem reads these from the bytes that Judge is handed.
+-- polynomial's at the facet's two vertices, and the last theorems read these from the bytes that Judge is handed. Of the
+-- polynomial's sums this says: one is above the bias and the other is not.
 use Prim.Native.Nat.{ℕ, suc, zero}
 use native.Mathlib.Omega.{arith}
 use mathlib.Core.Path.{_≡_, refl, sym, ap, ap₂, _∙_}
@@ -22,6 +23,7 @@ use Rattle.paper.specs.Bytes.{byte, signedWord}
 use Rattle.paper.specs.Job.{dimension, bias, body, decodePlace}
 use Rattle.paper.specs.Values.{rawSum, valueOf, sums, fieldOf}
 use Rattle.paper.specs.Operations.{answered, crossedIn, facetOf, judgeRefusal, judged}
+use Rattle.paper.proofs.BiasedValues.{value-above, value-not-above}
 use Rattle.paper.proofs.Refusals.{answered-inv, unless-answered}
 
 -- one value is above 0 and the other is 0 or below
@@ -129,3 +131,30 @@ judged-plain s p e h =
       λ a. crossed-vertices s v (byte p 4) e .0 (sym same ∙ answered-inv (judgeRefusal s p) (crossedIn s (facetOf s p)) true a .is),
       λ w. unless-answered (crossedIn s (facetOf s p)) h ∙ ap answered (same ∙ crossed-vertices s v (byte p 4) e .1 w),
     )
+
+-- one sum is above the bias and the other is not
+abbrev pub OneAboveBias : ℕ → ℤ → ℤ → Type 0
+OneAboveBias b x y = ((pos b <ℤ x) × (y ≤ℤ pos b)) ⊎ ((pos b <ℤ y) × (x ≤ℤ pos b))
+
+one-above-bias : (b : ℕ) (x y : ℤ) → OneAboveZero (valueOf b x) (valueOf b y) ↔ OneAboveBias b x y
+one-above-bias b x y = (there, back)
+  where
+    there : OneAboveZero (valueOf b x) (valueOf b y) → OneAboveBias b x y
+    there (inl w) = inl (value-above b x .0 (w .0), value-not-above b y .0 (w .1))
+    there (inr w) = inr (value-above b y .0 (w .0), value-not-above b x .0 (w .1))
+
+    back : OneAboveBias b x y → OneAboveZero (valueOf b x) (valueOf b y)
+    back (inl w) = inl (value-above b x .1 (w .0), value-not-above b y .1 (w .1))
+    back (inr w) = inr (value-above b y .1 (w .0), value-not-above b x .1 (w .1))
+
+-- Judge by the sums: the bias moves the level from 0 up to itself, so the low side grows
+pub judged-over-bias :
+    (s p : List ℕ) → dimension s ≡ 2 → judgeRefusal s p ≡ 0
+    → (judged s p ≡ answered true)
+    ↔ OneAboveBias (bias s)
+    (rawSum (body s 1) (signedWord p 0 ∷ signedWord p 2 ∷ []))
+    (rawSum (body s 1) (plus (signedWord p 0 ∷ signedWord p 2 ∷ []) (byte p 4)))
+judged-over-bias s p e h =
+    let v : Vertex = signedWord p 0 ∷ signedWord p 2 ∷ [] in
+    let sums = one-above-bias (bias s) (rawSum (body s 1) v) (rawSum (body s 1) (plus v (byte p 4))) in
+    (λ a. sums .0 (judged-plain s p e h .0 a), λ w. judged-plain s p e h .1 (sums .1 w))

@@ -2,6 +2,7 @@
 pub mod TextCodes
 pub mod Cases
 pub mod Cases4
+pub mod CasesBias
 pub mod Tests
 pub mod RangeSteps
 pub mod Refusals
@@ -14,6 +15,7 @@ pub mod WordBytes
 pub mod Encode
 pub mod WithStart
 pub mod BiasedValues
+pub mod OtherBias
 pub mod StartTraceable
 pub mod PlacesWritten
 pub mod CurveCounted

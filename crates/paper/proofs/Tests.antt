@@ -37,6 +37,13 @@ pub all-fails : (t : ℕ → Bool) (k m : ℕ) → t k ≡ false → allFrom t k
 unfolding allFrom
 all-fails t k m h = rw h
 
+-- tests that agree on the range agree on all of it
+pub all-same : (t u : ℕ → Bool) (k m : ℕ) → ((i : ℕ) → k ≤ i → i < k + m → t i ≡ u i) → allFrom t k m ≡ allFrom u k m
+unfolding allFrom
+all-same t u k zero f = refl
+all-same t u k (suc m) f =
+    rw (f k (omega arith) (omega arith), all-same t u (k + 1) m (λ i l h. f i (omega arith) (omega arith)))
+
 -- ---- the dimensions
 
 -- the range of the dimensions

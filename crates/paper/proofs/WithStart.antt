@@ -80,7 +80,7 @@ module _ {s : List ℕ} (o : Opens s) where
   last-body = take-all (entryLength s (dimension s)) (drop (entryOffset s (dimension s)) s) (omega (arith, last-end o, length-drop (entryOffset s (dimension s)) s))
 
 -- the entries' test looks at the entries and at the length alone
-entries-same : (n : ℕ) (s t : List ℕ) (m k at : ℕ) → length t ≡ length s
+pub entries-same : (n : ℕ) (s t : List ℕ) (m k at : ℕ) → length t ≡ length s
     → ((j : ℕ) → j < k + m → entryOffset t j ≡ entryOffset s j) → ((j : ℕ) → j < k + m → entryLength t j ≡ entryLength s j)
     → entriesOk n t m k at ≡ entriesOk n s m k at
 unfolding entriesOk
@@ -177,10 +177,17 @@ module _ {s : List ℕ} (o : Opens s) (p : Place) where
 
 -- ---- the field
 
-map-same : {A : Type 0} (f g : ℕ → A) (k m : ℕ) → ((i : ℕ) → k ≤ i → i < k + m → f i ≡ g i) → map f (countFrom k m) ≡ map g (countFrom k m)
+pub map-same : {A : Type 0} (f g : ℕ → A) (k m : ℕ) → ((i : ℕ) → k ≤ i → i < k + m → f i ≡ g i) → map f (countFrom k m) ≡ map g (countFrom k m)
 unfolding countFrom
 map-same f g k zero h = refl
 map-same f g k (suc m) h = rw (h k (omega arith) (omega arith), map-same f g (suc k) m (λ i l u. h i (omega arith) (omega arith)))
+
+-- the sums come from the dimension and the polynomials
+pub sums-same : (s t : List ℕ) → dimension t ≡ dimension s → ((k : ℕ) → k < dimension s → body t k ≡ body s k) → (v : Vertex) → sums t v ≡ sums s v
+unfolding sums
+sums-same s t e f v =
+    ap (λ n. map (λ k. rawSum (body t k) v) (countFrom 1 (n - 1))) e
+    ∙ map-same (λ k. rawSum (body t k) v) (λ k. rawSum (body s k) v) 1 (dimension s - 1) (λ k l u. ap (λ b. rawSum b v) (f k (omega arith)))
 
 -- the values, the box and the readable vertices come from the dimension, the bias and the bodies in front of the start
 field-same :
@@ -190,15 +197,10 @@ unfolding fieldOf
 field-same s t p e g f =
     λ i.
     record {
-      value = λ v. map (valueOf (g i)) (same v i);
+      value = λ v. map (valueOf (g i)) (sums-same s t e f v i);
       inBox = insideFrom (f 0 p i) 0;
-      readable = λ v. every (readableSum (e i)) (same v i);
+      readable = λ v. every (readableSum (e i)) (sums-same s t e f v i);
     }
-  where
-    same : (v : Vertex) → sums t v ≡ sums s v
-    same v = unfold sums in
-        ap (λ n. map (λ k. rawSum (body t k) v) (countFrom 1 (n - 1))) e
-        ∙ map-same (λ k. rawSum (body t k) v) (λ k. rawSum (body s k) v) 1 (dimension s - 1) (λ k l u. ap (λ b. rawSum b v) (f k (omega arith)))
 
 pub withStart-field : {s : List ℕ} → Opens s → (p : Place) → fieldOf (withStart s p) ≡ fieldOf s
 withStart-field {s} o p =
