@@ -9,7 +9,7 @@ use lib.ListN.{length}
 use borrow.Author.Tests.{leb-true}
 use Rattle.exact.specs.Size.{Size}
 use Rattle.paper.specs.Job.{dimension, bias, body}
-use Rattle.paper.specs.Values.{readableSum, valueOf, fieldOf}
+use Rattle.paper.specs.Values.{readableSum, valueOf, fieldFrom, fieldOf}
 use Rattle.paper.proofs.Bodies.{box-length, terms-high}
 use Rattle.paper.proofs.BiasedValues.{value-size}
 use Rattle.places.specs.declared.Vertex.{Vertex}
@@ -36,7 +36,7 @@ module _ {n : ℕ} {s : List ℕ} (j : JobOf n s) where
       })
 
   pub job-near : (v : Vertex) → fieldOf s .inBox (vertexAs n v) ≡ true → Near n v
-  unfolding fieldOf
+  unfolding fieldFrom fieldOf
   job-near v h = inside-near n (body s 0) v (job-axes j) (rw (j .dimension) (job-opens j .box)) h
 
   pub job-value : (z : ℤ) → readableSum n z ≡ true → Size (entryLimit n) (valueOf (bias s) z)

@@ -17,7 +17,7 @@ use Rattle.exact.proofs.CountFrom.{map-countFrom-suc}
 use Rattle.curves.specs.Grid.{Vertex}
 use Rattle.curves.specs.Step.{column, every}
 use Rattle.paper.specs.Job.{dimension, bias, body}
-use Rattle.paper.specs.Values.{rawSum, readableSum, valueOf, sums, fieldOf}
+use Rattle.paper.specs.Values.{rawSum, readableSum, valueOf, sums, fieldFrom, fieldOf}
 use Rattle.job.specs.OpenJob.{JobOf}
 use Rattle.facets.specs.Cells.{columnAt, entryLimit, Cells}
 use Rattle.columns.specs.Found.{ValuePut, ValuesPut}
@@ -83,7 +83,7 @@ module _ {n : ℕ} {s : List ℕ} (j : JobOf n s) (v : Vertex) where
       ∙ same-each (λ q. rawSum (body s (suc q)) v) sum-at (n - 1) (λ q l. ap (λ (k : ℕ). rawSum (body s k) v) (next q)))
 
   readable-are : every (readableSum n) (map sum-at (countFrom 0 (n - 1))) ≡ fieldOf s .readable v
-  unfolding fieldOf
+  unfolding fieldFrom fieldOf
   readable-are = rw (← sums-are, j .dimension)
 
 module _ {n : ℕ} {s : List ℕ} (j : JobOf n s) {v : Vertex} {i : ℕ} {before cells : List ℤ} (k : ℕ) (g : Putting s n v i before k cells) where
@@ -102,7 +102,7 @@ module _ {n : ℕ} {s : List ℕ} (j : JobOf n s) {v : Vertex} {i : ℕ} {before
 
   -- all are in
   pub putting-all : n ≤ k + 1 → k + 1 ≤ n → ValuesPut s n v i before true cells
-  unfolding columnAt column fieldOf sum-at
+  unfolding columnAt column fieldFrom fieldOf sum-at
   putting-all l u =
       record {
         test = sym (every-all (readableSum n) (sum-at j v) (n - 1) (λ q m. g .tests q (omega arith))) ∙ readable-are j v;

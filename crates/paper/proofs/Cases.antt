@@ -119,7 +119,7 @@ unfolding Int._⊕_ Int.neg Int._⊖_ Int._⊗_ Int.power
     Job.exponentOf Job.exponentsZero Job.degree Job.termOk Job.exponentWeight Job.rises Job.polynomialOk Job.decodePlace
     Job.vertexBytes Job.encodePlace Job.withStart Job.refuseIf Job.openRefusal
     Values.monomial Values.termValue Values.sumFrom Values.rawSum Values.readableSum Values.valueOf Values.sums
-    Values.insideFrom Values.fieldOf Values.roundSteps Values.hasAxis Values.weightSum Values.overSize
+    Values.insideFrom Values.fieldFrom Values.fieldOf Values.roundSteps Values.hasAxis Values.weightSum Values.overSize
     Values.coordinateSteps Values.pointFrom Values.pointOf
     Operations.unless Operations.firstRefusal Operations.facetRefusal Operations.crossedIn Operations.placeBad
     Operations.facetOf Operations.judgeRefusal Operations.judged Operations.pointRefusal Operations.pointed

@@ -110,6 +110,8 @@ markedCasesBias =
     ∷ judges (withBias (waist 2) 1) (encodePlace (place (pos 0 ∷ pos 0 ∷ []) (2 ∷ []) 0)) (answered true)
     -- the readable test comes first, and is of the sum: no bias helps
     ∷ judges (withBias caseI 255) (17 ∷ 0 ∷ 0 ∷ 0 ∷ 2 ∷ 0 ∷ []) (refused 10)
+    -- the same with a number that no byte holds, since a byte is far under the readable limit
+    ∷ judges (withBias caseI 303038464) (17 ∷ 0 ∷ 0 ∷ 0 ∷ 2 ∷ 0 ∷ []) (refused 10)
     -- Point: between − 3 and 9 a quarter of the way, and with − 3 taken for 0 at its vertex; with 9 taken for 0 nothing crosses
     ∷ points (withBias (waist 2) 2) (encodePlace (waistPlace 2)) (pos 1280 ∷ pos 0 ∷ [])
     ∷ points (withBias (waist 2) 3) (encodePlace (waistPlace 2)) (pos 1024 ∷ pos 0 ∷ [])
@@ -143,7 +145,7 @@ marked-cases-bias-hold =
     -- values
     also refl also refl also refl also refl also refl also refl also refl also refl also refl
     -- Judge
-    also refl also refl also refl also refl also refl
+    also refl also refl also refl also refl also refl also refl
     -- Point and Pen
     also refl also refl also refl also refl also refl also refl
     -- Trace

@@ -21,7 +21,7 @@ use Rattle.curves.specs.Grid.{Vertex, Facet, plus, facetVertices, chain, lastMa
 use Rattle.curves.specs.Step.{column, columns, crossedFacet}
 use Rattle.paper.specs.Bytes.{byte, signedWord}
 use Rattle.paper.specs.Job.{dimension, bias, body, decodePlace}
-use Rattle.paper.specs.Values.{rawSum, valueOf, sums, fieldOf}
+use Rattle.paper.specs.Values.{rawSum, valueOf, sums, fieldFrom, fieldOf}
 use Rattle.paper.specs.Operations.{answered, crossedIn, facetOf, judgeRefusal, judged}
 use Rattle.paper.proofs.BiasedValues.{value-above, value-not-above}
 use Rattle.paper.proofs.Refusals.{answered-inv, unless-answered}
@@ -78,7 +78,7 @@ highVertex f = plus (f .low) (lastMask 0 (f .masks))
 two-columns :
     (s : List ℕ) (v : Vertex) (m : ℕ) → dimension s ≡ 2
     → columns (fieldOf s) (facetVertices record { low = v; masks = m ∷ [] }) ≡ facet2 (valueAt s v) (valueAt s (plus v m))
-unfolding columns column fieldOf sums facetVertices countFrom
+unfolding columns column fieldFrom fieldOf sums facetVertices countFrom
 two-columns s v m e = rw e
 
 crossed-columns :

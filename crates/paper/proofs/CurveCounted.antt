@@ -17,7 +17,7 @@ use Rattle.curves.specs.GridDemand.{traceOf}
 use Rattle.curves.proofs.Finite.{within}
 use Rattle.curves.proofs.Demand.{grid-demand3, curve-finite, loop-closed, stopped-open}
 use Rattle.paper.specs.Job.{dimension, body, lowEnd, highEnd}
-use Rattle.paper.specs.Values.{insideFrom, fieldOf}
+use Rattle.paper.specs.Values.{insideFrom, fieldFrom, fieldOf}
 use Rattle.paper.specs.Operations.{startOf, traceRefusal}
 use Rattle.paper.specs.Demand3.{CurveHas, CurveCloses}
 use Rattle.paper.proofs.Opens.{opens-range}
@@ -42,7 +42,7 @@ inside-within b a (x ∷ v) h =
 -- the vertices of n coordinates that lie in the box lie between its ends
 box-within : (s : List ℕ) (v : Vertex) → length v ≡ dimension s → fieldOf s .inBox v ≡ true
     → within (lows (body s 0) 0 (dimension s)) (highs (body s 0) 0 (dimension s)) v ≡ true
-unfolding fieldOf
+unfolding fieldFrom fieldOf
 box-within s v l h =
     subst (λ m. within (lows (body s 0) 0 m) (highs (body s 0) 0 m) v ≡ true) l (inside-within (body s 0) 0 v h)
 

@@ -18,7 +18,7 @@ use Rattle.paper.specs.Bytes.{byte, word}
 use Rattle.paper.specs.Limits.{readableLimit}
 use Rattle.paper.specs.Job.{dimension, bias, entryOffset, entryLength, contentsEnd, contentsOk, body, boxOk, allFrom, polynomialOk, termCount, decodePlace}
 use Rattle.paper.specs.Job.{refuseIf, openRefusal}
-use Rattle.paper.specs.Values.{readableSum, valueOf, sums, insideFrom, fieldOf}
+use Rattle.paper.specs.Values.{readableSum, valueOf, sums, insideFrom, fieldFrom, fieldOf}
 use Rattle.paper.specs.Operations.{unless, openValues, opened, polynomialTerms, startOf, facetRefusal}
 use Rattle.paper.specs.Demand3.{InCurve}
 use Rattle.paper.specs.Bias.{withBias, biasedField, fieldWithoutBias, openRefusalWithoutBias}
@@ -110,11 +110,10 @@ module _ (s : List ℕ) (b : ℕ) where
 -- refusal 2 is for byte 0 alone
 pub refusal-2 : (s : List ℕ) → (openRefusal s ≡ 2) ↔ ((4 ≤ length s) × (byte s 0 ≢ 1))
 unfolding openRefusal
-refusal-2 s =
-    (
-      λ h. go h (ltb (length s) 4) (eqb (byte s 0) 1) refl refl,
-      λ w. refuse-later 1 _ (le-ltb (length s) 4 (w .0)) ∙ refuse-here 2 _ (ap not (ne-eqb (byte s 0) 1 (w .1))),
-    )
+refusal-2 s = (
+  λ h. go h (ltb (length s) 4) (eqb (byte s 0) 1) refl refl,
+  λ w. refuse-later 1 _ (le-ltb (length s) 4 (w .0)) ∙ refuse-here 2 _ (ap not (ne-eqb (byte s 0) 1 (w .1))),
+)
   where
     -- a test with another number does not answer 2
     later : (t : Bool) (k rest : ℕ) → k ≢ 2 → refuseIf t k rest ≡ 2 → rest ≡ 2
@@ -165,12 +164,7 @@ module _ {s : List ℕ} (o : Opens s) (b : ℕ) where
   unfolding fieldOf biasedField
   withBias-field =
       let sum = sums-same s (withBias s b) (withBias-dimension s b) (λ k l. withBias-body k (omega arith)) in
-      λ i.
-      record {
-        value = λ v. map (valueOf (withBias-bias s b (o .long) i)) (sum v i);
-        inBox = insideFrom (withBias-body 0 (omega arith) i) 0;
-        readable = λ v. every (readableSum (withBias-dimension s b i)) (sum v i);
-      }
+      λ i. fieldFrom (withBias-dimension s b i) (withBias-bias s b (o .long) i) (withBias-body 0 (omega arith) i) (λ v. sum v i)
 
   -- the joined facets are those of the biased values
   pub withBias-curve : (f : Facet) → InCurve (withBias s b) f ↔ Joined (dimension s) (biasedField s b) (startOf s .facet) f
@@ -178,7 +172,7 @@ module _ {s : List ℕ} (o : Opens s) (b : ℕ) where
 
   -- the bias has no part in refusals 9 and 10
   pub withBias-facet : (f : Facet) → facetRefusal (withBias s b) f ≡ facetRefusal s f
-  unfolding facetRefusal fieldOf biasedField
+  unfolding facetRefusal fieldFrom fieldOf biasedField
   withBias-facet f =
       ap (λ (φ : Field). refuseIf (not (every (φ .inBox) (facetVertices f))) 9 (refuseIf (not (every (φ .readable) (facetVertices f))) 10 0))
       withBias-field
@@ -195,7 +189,7 @@ byte-readable {b} n l = test (eqb n 4)
 -- so whether the sums or the values are tested for readable cannot be told from outside
 pub readable-either-way :
     (s : List ℕ) → bias s < 256 → (v : Vertex) → every (readableSum (dimension s)) (fieldOf s .value v) ≡ fieldOf s .readable v
-unfolding fieldOf
+unfolding fieldFrom fieldOf
 readable-either-way s l v = readable-values (dimension s) (bias s) (byte-readable (dimension s) (omega arith)) (sums s v)
 
 -- Open answers the same, the counts of terms too, whatever the bytes
@@ -211,7 +205,7 @@ withBias-opened s b = rw (withBias-open s b) (go (openRefusal s) refl)
 
 -- the values are the sums
 pub bias-0-field : (s : List ℕ) → bias s ≡ 0 → fieldOf s ≡ fieldWithoutBias s
-unfolding fieldOf fieldWithoutBias
+unfolding fieldFrom fieldOf fieldWithoutBias
 bias-0-field s e =
     λ i.
     record {

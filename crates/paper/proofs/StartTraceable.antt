@@ -19,7 +19,7 @@ use Rattle.curves.proofs.GridStep.{Accepted, accepted, accepted-traceable}
 use Rattle.curves.proofs.Demand.{traceable-low}
 use Rattle.paper.specs.Limits.{coordinateLimit}
 use Rattle.paper.specs.Job.{dimension, body, boxOk, lowEnd, highEnd, decodePlace, encodePlace, withStart}
-use Rattle.paper.specs.Values.{insideFrom, fieldOf}
+use Rattle.paper.specs.Values.{insideFrom, fieldFrom, fieldOf}
 use Rattle.paper.specs.Operations.{answered, facetRefusal, crossedIn, placeBad, facetOf, judgeRefusal, pointRefusal, stepIn, stepped, startOf, traceRefusal, onSameFacet, traced}
 use Rattle.paper.proofs.ShortPlaces.{short, limited, shortPlace}
 use Rattle.paper.proofs.Refusals.{not-refused, refuse-later, neither-refused, first-passes, unless-answered}
@@ -83,7 +83,7 @@ module _ {s : List ℕ} (o : Opens s) (p : Place) (t : Traceable (dimension s) (
   parts = accepted (dimension s) (fieldOf s) p t
 
   pub traceable-inside : insideFrom (body s 0) 0 (p .facet .low) ≡ true
-  unfolding fieldOf
+  unfolding fieldFrom fieldOf
   traceable-inside = traceable-low (dimension s) (fieldOf s) p t
 
   pub traceable-limited : every limited (p .facet .low) ≡ true

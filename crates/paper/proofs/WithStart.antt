@@ -10,10 +10,9 @@ use lib.Seq.{getD-take, take-append-le, drop-append-le, length-take-le, take-all
 use borrow.Author.Tests.{le-ltb, eq-eqb}
 use Rattle.exact.specs.Crossed.{countFrom}
 use Rattle.curves.specs.Grid.{Vertex, Place, placeOk}
-use Rattle.curves.specs.Step.{every}
 use Rattle.paper.specs.Bytes.{byte, word}
 use Rattle.paper.specs.Job.{dimension, bias, entryOffset, entryLength, contentsEnd, entriesOk, contentsOk, body, decodePlace, encodePlace, withStart, openRefusal}
-use Rattle.paper.specs.Values.{rawSum, valueOf, readableSum, sums, insideFrom, fieldOf}
+use Rattle.paper.specs.Values.{rawSum, sums, fieldFrom, fieldOf}
 use Rattle.paper.specs.Operations.{startOf}
 use Rattle.paper.proofs.ShortPlaces.{shortPlace}
 use Rattle.paper.proofs.Tests.{all-from}
@@ -194,13 +193,7 @@ field-same :
     (s t : List ℕ) → 0 < dimension s → dimension t ≡ dimension s → bias t ≡ bias s
     → ((k : ℕ) → k < dimension s → body t k ≡ body s k) → fieldOf t ≡ fieldOf s
 unfolding fieldOf
-field-same s t p e g f =
-    λ i.
-    record {
-      value = λ v. map (valueOf (g i)) (sums-same s t e f v i);
-      inBox = insideFrom (f 0 p i) 0;
-      readable = λ v. every (readableSum (e i)) (sums-same s t e f v i);
-    }
+field-same s t p e g f = λ i. fieldFrom (e i) (g i) (f 0 p i) (λ v. sums-same s t e f v i)
 
 pub withStart-field : {s : List ℕ} → Opens s → (p : Place) → fieldOf (withStart s p) ≡ fieldOf s
 withStart-field {s} o p =

@@ -3,25 +3,21 @@
 -- them.
 use Prim.Native.Nat.{ℕ}
 use mathlib.Core.Bool.{not, _||_}
-use mathlib.Core.List.{List, map}
+use mathlib.Core.List.{List}
 use lib.ListN.{length, set}
 use lib.Dec.{ltb, eqb}
 use Rattle.curves.specs.Step.{Field, every}
 use Rattle.paper.specs.Bytes.{byte}
 use Rattle.paper.specs.Job.{dimension, body, refuseIf, openRefusal}
-use Rattle.paper.specs.Values.{readableSum, valueOf, sums, insideFrom}
+use Rattle.paper.specs.Values.{readableSum, sums, insideFrom, fieldFrom}
 
 -- the same job with another bias
 unfoldable pub withBias : List ℕ → ℕ → List ℕ
 withBias s b = set s 3 b
 
--- what the curves of a job are drawn on if its bias is b: the values go by b, the box and the readable vertices by the bodies alone
+-- what the curves of a job would be drawn on if its bias were b
 unfoldable pub biasedField : List ℕ → ℕ → Field
-biasedField s b = record {
-  value = λ v. map (valueOf b) (sums s v);
-  inBox = insideFrom (body s 0) 0;
-  readable = λ v. every (readableSum (dimension s)) (sums s v);
-}
+biasedField s b = fieldFrom (dimension s) b (body s 0) (sums s)
 
 -- ---- before the request
 

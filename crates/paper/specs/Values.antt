@@ -51,12 +51,17 @@ unfoldable pub insideFrom : List ℕ → ℕ → Vertex → Bool
 insideFrom b a [] = true
 insideFrom b a (x ∷ v) = leZ (lowEnd b a) x && (leZ x (highEnd b a) && insideFrom b (suc a) v)
 
-unfoldable pub fieldOf : List ℕ → Field
-fieldOf s = record {
-  value = λ v. map (valueOf (bias s)) (sums s v);
-  inBox = insideFrom (body s 0) 0;
-  readable = λ v. every (readableSum (dimension s)) (sums s v);
+-- what curves are drawn on, from the dimension n, the bias, the box and the sums; readable is tested of the sums, the bias counts behind it
+unfoldable pub fieldFrom : ℕ → ℕ → List ℕ → (Vertex → List ℤ) → Field
+fieldFrom n bias box sums = record {
+  value = λ v. map (valueOf bias) (sums v);
+  inBox = insideFrom box 0;
+  readable = λ v. every (readableSum n) (sums v);
 }
+
+-- what the curves of a job are drawn on
+unfoldable pub fieldOf : List ℕ → Field
+fieldOf s = fieldFrom (dimension s) (bias s) (body s 0) (sums s)
 
 -- ---- points
 

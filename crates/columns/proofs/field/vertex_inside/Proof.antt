@@ -2,7 +2,7 @@
 use mathlib.Core.Path.{ap, _∙_}
 use mathlib.Core.List.{List}
 use Prim.Native.Nat.{ℕ}
-use Rattle.paper.specs.Values.{insideFrom, fieldOf}
+use Rattle.paper.specs.Values.{insideFrom, fieldFrom, fieldOf}
 use Rattle.places.specs.Held.{vertexAs}
 use Rattle.job.proofs.OpenJob.{job-axes}
 use Rattle.columns.proofs.OpenedJob.{job-box}
@@ -17,7 +17,7 @@ inside-requires : tie.Need-inside-requires
 inside-requires c κs = (job-axes (c .before .before .pre), job-box (c .before .before .pre) (c .opened-body .ensures .1))
 
 returns : tie.Need-returns
-unfolding fieldOf
+unfolding fieldFrom fieldOf
 returns c =
     let a = c .before .before .before .args in
     c .inside .ensures ∙ ap (λ (b : List ℕ). insideFrom b 0 (vertexAs (a .n) (a .v))) (c .before .opened-body .ensures .1)
