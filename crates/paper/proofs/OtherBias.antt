@@ -69,7 +69,7 @@ module _ (s : List ℕ) (b : ℕ) where
       behind : drop (entryOffset s k) (withBias s b) ≡ drop (entryOffset s k) s
       behind = unfold withBias contentsEnd in drop-set-lt (entryOffset s k) s 3 b (omega (arith, contents-before n s k h l))
 
--- ---- Open
+-- ---- Open's refusal
 
 -- Open's tests 6 to 8, of box, terms and start
 abbrev bodiesRefusal : ℕ → List ℕ → ℕ
@@ -177,14 +177,15 @@ module _ {s : List ℕ} (o : Opens s) (b : ℕ) where
       ap (λ (φ : Field). refuseIf (not (every (φ .inBox) (facetVertices f))) 9 (refuseIf (not (every (φ .readable) (facetVertices f))) 10 0))
       withBias-field
 
+-- ---- the readable test and the bias
+
 -- a byte lies within the readable limit of every dimension
 byte-readable : {b : ℕ} (n : ℕ) → b < 256 → b ≤ readableLimit n
-unfolding readableLimit
-byte-readable {b} n l = test (eqb n 4)
+byte-readable {b} n l = go (eqb n 4) refl
   where
-    test : (t : Bool) → b ≤ cond t 524288 268435456
-    test true = omega arith
-    test false = omega arith
+    go : (t : Bool) → eqb n 4 ≡ t → b ≤ readableLimit n
+    go true e = unfold readableLimit in rw e (omega arith)
+    go false e = unfold readableLimit in rw e (omega arith)
 
 -- so whether the sums or the values are tested for readable cannot be told from outside
 pub readable-either-way :
@@ -192,7 +193,9 @@ pub readable-either-way :
 unfolding fieldFrom fieldOf
 readable-either-way s l v = readable-values (dimension s) (bias s) (byte-readable (dimension s) (omega arith)) (sums s v)
 
--- Open answers the same, the counts of terms too, whatever the bytes
+-- ---- Open's answer
+
+-- it is the same at every bias, the counts of terms too, whatever the bytes
 pub withBias-opened : (s : List ℕ) (b : ℕ) → opened (withBias s b) ≡ opened s
 unfolding opened
 withBias-opened s b = rw (withBias-open s b) (go (openRefusal s) refl)

@@ -1,6 +1,5 @@
 -- `values::value::value_of` meets its contract: 0 for a sum no larger in size than the bias, and else the sum.
 use mathlib.Core.Path.{_≡_, sym, ap, _∙_}
-use Prim.Native.Nat.{ℕ, _≤_, _<_}
 use native.Mathlib.Omega.{arith}
 use lib.IntN.{natAbs}
 use borrow.Author.Needs.{needs}
