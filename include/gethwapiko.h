@@ -1,6 +1,6 @@
 /* The C interface of Gethwapiko (archive: target/staticlib/libcabi.a, x86-64).
  *
- * Each function answers exactly what the definition of document 01 says, for every input; the proof is in crates/cabi.
+ * Each function answers exactly what the definition of document 01 and of the requests says, for every input; the proof is in crates/cabi.
  * Bytes are handed over as a pointer and a count, and the pointer must be good for that many bytes. Nothing is kept between calls,
  * nothing is allocated, and only the buffer of gethwapiko_trace is written; it must not overlap the job.
  *
@@ -10,7 +10,7 @@
  *
  * Refusals, in the order in which Open tests them; every other function opens the job first:
  *    1  fewer than 4 bytes                 5  contents cut short, bodies not adjacent, or a length wrong for its kind
- *    2  byte 0 or 3 wrong                  6  box
+ *    2  byte 0 wrong                       6  box
  *    3  dimension not 2, 3 or 4            7  a term, or the order of terms
  *    4  entry count                        8  the start's masks or side
  * and of a place or an index:
@@ -19,6 +19,9 @@
  *   11  not crossed
  *
  * A place is 3n bytes, little-endian: n signed 16-bit coordinates of the lowest vertex, n - 1 masks, a side 0 or 1.
+ *
+ * Byte 3 of a job is its bias, 0 to 255: a value no larger in size counts as 0 in every function that goes by values. It is tested for
+ * readable before, so a bias changes no refusal 9 or 10. 0 is no bias; a caller may set the byte in place: job[GETHWAPIKO_BIAS] = 1.
  */
 #ifndef GETHWAPIKO_H
 #define GETHWAPIKO_H
@@ -29,6 +32,9 @@
 #ifdef __cplusplus
 extern "C" {
 #endif
+
+/* The byte of a job that holds its bias. */
+enum { GETHWAPIKO_BIAS = 3 };
 
 typedef struct {
     uint64_t refusal;

@@ -20,6 +20,7 @@ struct Job<const N: usize> {
     low: [i64; N],
     high: [i64; N],
     readable: i64,
+    bias: i64,
     polynomials: [Vec<Term>; 3],
     /// The powers of the coordinates of the vertex that is summed, by axis and exponent. An entry
     /// for each byte, so that no index needs a test; those above 4 are not used.
@@ -57,6 +58,7 @@ impl<const N: usize> Job<N> {
             low: std::array::from_fn(|a| signed_16(ends, 4 * a)),
             high: std::array::from_fn(|a| signed_16(ends, 4 * a + 2)),
             readable: if N == 4 { 524_288 } else { 268_435_456 },
+            bias: job[3] as i64,
             polynomials,
             powers: [[1; 256]; N],
         }
@@ -70,7 +72,8 @@ impl<const N: usize> Job<N> {
         inside
     }
 
-    /// The values at a vertex, or none if one of them is not readable.
+    /// The values at a vertex, or none if one of them is not readable. A sum no larger in size than
+    /// the bias counts as 0.
     fn values(&mut self, v: &[i64; N]) -> Option<Values> {
         for a in 0..N {
             for e in 1..5 {
@@ -90,7 +93,9 @@ impl<const N: usize> Job<N> {
             if sum < -self.readable || sum > self.readable {
                 return None;
             }
-            values[k] = sum;
+            if sum < -self.bias || sum > self.bias {
+                values[k] = sum;
+            }
         }
         Some(values)
     }

@@ -35,7 +35,7 @@ fn all_terms(n: usize, coefficient: impl Fn(&[u8]) -> i64) -> Vec<Term> {
 /// A job in a cube around the origin, with its start.
 fn job_from(reach: i64, polynomials: Vec<Vec<Term>>, start: Place) -> Parts {
     let n = start.facet.n;
-    Parts { n, ends: vec![(-reach, reach); n], polynomials, start }
+    Parts { n, bias: 0, ends: vec![(-reach, reach); n], polynomials, start }
 }
 
 /// A job in a cube around the origin, whose start is searched for.

@@ -6,18 +6,17 @@ pub mod plain;
 
 #[cfg(test)]
 mod tests {
-    use reference::build::Parts;
+    use reference::build::{gathered, place, term, Parts};
     use reference::generate::{valid, Random};
+    use reference::operations::Verdict;
     use reference::product::{Product, Reference};
     use reference::tally::Tally;
 
     use crate::{careful, plain};
 
-    /// Compares answers and buffers with the reference.
-    fn compare(r: &mut Random, parts: &Parts) {
-        let size = 3 * parts.n;
-        let space = r.pick(&[0, 1, 7, 120]);
-        let noise = vec![0x5a; size * space + r.pick(&[0, 2])];
+    /// Compares answers and buffers of that length with the reference; gives the answer.
+    fn compared(parts: &Parts, length: usize) -> Result<(Verdict, usize), u8> {
+        let noise = vec![0x5a; length];
         let mut wanted_buffer = noise.clone();
         let wanted = Reference.trace(&parts.bytes(), &mut wanted_buffer);
         for trace in [plain::trace, careful::trace] {
@@ -25,17 +24,41 @@ mod tests {
             assert_eq!(trace(&parts.bytes(), &mut buffer), wanted, "{parts:?}");
             assert!(buffer == wanted_buffer, "{parts:?}");
         }
+        wanted
     }
 
     #[test]
     fn both_write_what_the_reference_writes() {
         let mut r = Random::new(31);
-        let mut kinds = Tally::default();
+        let mut made = Tally::default();
         for _ in 0..30_000 {
-            let (kind, parts) = valid(&mut r);
-            compare(&mut r, &parts);
-            kinds.count(parts.n, kind);
+            let (names, parts) = valid(&mut r);
+            let length = 3 * parts.n * r.pick(&[0, 1, 7, 120]) + r.pick(&[0, 2]);
+            let _any = compared(&parts, length);
+            made.count(parts.n, names);
         }
-        kinds.assert_all();
+        made.assert_all();
+    }
+
+    /// Both know the bias: at 199 one of two lobes is a loop of its own, at 200 their waist is low.
+    #[test]
+    fn both_join_two_lobes_by_a_bias() {
+        let terms = [
+            term(200, &[]),
+            term(-1_040, &[0, 1]),
+            term(1_040, &[0, 2]),
+            term(-120, &[2]),
+            term(1, &[4]),
+        ];
+        for (bias, count) in [(0, 46), (199, 50), (200, 98), (255, 98)] {
+            let parts = Parts {
+                n: 2,
+                bias,
+                ends: vec![(-12, 12), (-3, 4)],
+                polynomials: vec![gathered(&terms)],
+                start: place(&[-11, 0], &[1], 0),
+            };
+            assert_eq!(compared(&parts, 600), Ok((Verdict::Loop, count)), "bias {bias}");
+        }
     }
 }

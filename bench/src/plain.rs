@@ -15,6 +15,7 @@ struct Term<const A: usize> {
 
 struct Job<const A: usize, const P: usize> {
     n: usize,
+    bias: i64,
     ends: [(i64, i64); A],
     polynomials: [Vec<Term<A>>; P],
 }
@@ -53,7 +54,7 @@ fn read<const A: usize, const P: usize>(job: &[u8]) -> (Job<A, P>, &[u8]) {
         .collect()
     };
     let polynomials = std::array::from_fn(|k| if k + 1 < n { terms(k + 1) } else { Vec::new() });
-    (Job { n, ends, polynomials }, body(n))
+    (Job { n, bias: job[3] as i64, ends, polynomials }, body(n))
 }
 
 impl<const A: usize, const P: usize> Job<A, P> {
@@ -63,7 +64,8 @@ impl<const A: usize, const P: usize> Job<A, P> {
         (0..self.n).all(|k| self.ends[k].0 <= v[k] && v[k] <= self.ends[k].1)
     }
 
-    /// The values at a vertex, or none if one of them is not readable.
+    /// The values at a vertex, or none if one of them is not readable. A sum no larger in size than
+    /// the bias counts as 0.
     fn values(&self, v: &[i64; A]) -> Option<[i64; P]> {
         let mut powers = [[1i64; 5]; A];
         for axis in 0..self.n {
@@ -82,6 +84,9 @@ impl<const A: usize, const P: usize> Job<A, P> {
             }
             if values[k] < -Self::READABLE || values[k] > Self::READABLE {
                 return None;
+            }
+            if values[k].abs() <= self.bias {
+                values[k] = 0;
             }
         }
         Some(values)

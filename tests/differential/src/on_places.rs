@@ -3,54 +3,68 @@
 use std::fmt::Debug;
 
 use reference::build::Parts;
-use reference::generate::{any_job, any_place, valid, JobTally, Kind, PlaceTally, Random};
+use reference::generate::{any_job, any_place, valid, JobTally, PlaceTally, Random};
 use reference::grid::Place;
-use reference::limits::{Limits, DIMENSIONS};
-use reference::operations::largest_value;
+use reference::limits::DIMENSIONS;
+use reference::sums_met::{SumsMet, AROUND_BIAS, AT_LIMIT, NOT_READABLE};
 use reference::tally::{Answer, Tally};
+
+use crate::answers::{and_those_of_open, at_each_bias};
 
 /// An operation on a job and a place.
 type Operation<A> = fn(job: &[u8], place: &[u8]) -> Result<A, u8>;
 
-/// An operation of the library, that of the reference, and names for its answers.
-pub struct OnPlaces<A> {
+/// An operation of the library, that of the reference, names for its answers, all the answers
+/// that it has besides those of Open, and some that the bias changes, from what to what.
+pub struct OnPlaces<A: 'static> {
     pub library: Operation<A>,
     pub reference: Operation<A>,
     pub name: fn(&A) -> &'static str,
+    pub own: &'static [Answer],
+    pub changed: &'static [(Answer, Answer)],
 }
 
 impl<A: PartialEq + Debug> OnPlaces<A> {
-    /// Compares the two answers; gives what they are.
-    fn compare(&self, job: &[u8], place: &[u8]) -> Answer {
-        let wanted = (self.reference)(job, place);
-        assert_eq!((self.library)(job, place), wanted, "{place:?} in {job:?}");
-        wanted.as_ref().map(self.name).map_err(|number| *number)
+    fn named(&self, answer: &Result<A, u8>) -> Answer {
+        answer.as_ref().map(self.name).map_err(|number| *number)
     }
 
-    /// So many valid jobs with so many places each; places of each kind come up, and values at
-    /// the readable limit and past it.
-    pub fn valid_jobs(&self, seed: u64, jobs: usize, places: usize) -> Tally<Answer> {
+    /// Compares the two answers; gives what they are.
+    fn compare(&self, job: &[u8], place: &[u8]) -> Result<A, u8> {
+        let wanted = (self.reference)(job, place);
+        assert_eq!((self.library)(job, place), wanted, "{place:?} in {job:?}");
+        wanted
+    }
+
+    /// So many valid jobs with so many places each; places of each kind come up, each answer at
+    /// each bias, sums at the readable limit and at the bias, and answers that the bias changes.
+    pub fn valid_jobs(&self, seed: u64, jobs: usize, places: usize) {
         let mut r = Random::new(seed);
-        let mut answers = Tally::default();
-        let (mut kinds, mut made) = (Tally::default(), PlaceTally::default());
-        let mut limits = Tally::default();
+        let (mut made, mut places_made) = (Tally::default(), PlaceTally::default());
+        let (mut answers, mut changed) = (Tally::default(), Tally::default());
+        let mut sums = SumsMet::default();
         for _ in 0..jobs {
-            let (kind, parts) = valid(&mut r);
-            let job = parts.bytes();
-            kinds.count(parts.n, kind);
+            let (names, parts) = valid(&mut r);
+            let (job, opened) = (parts.bytes(), parts.opened());
+            let at_zero = Parts { bias: 0, ..parts.clone() }.bytes();
+            made.count(parts.n, names);
             for _ in 0..places {
                 let place = any_place(&mut r, &parts);
-                answers.count(parts.n, self.compare(&job, &place.bytes));
-                made.count(&place);
-                if kind == Kind::IntoReadableLimit {
-                    count_at_limit(&mut limits, &parts, &place.bytes);
+                let answer = self.compare(&job, &place.bytes);
+                let plain = (self.reference)(&at_zero, &place.bytes);
+                if answer != plain {
+                    changed.count(parts.n, (self.named(&plain), self.named(&answer)));
                 }
+                answers.count(parts.n, (names.bias, self.named(&answer)));
+                places_made.count(&place);
+                Place::read(parts.n, &place.bytes).iter().for_each(|p| sums.count(&opened, p));
             }
         }
-        kinds.assert_all();
         made.assert_all();
-        limits.assert_met(&AT_LIMIT);
-        answers
+        places_made.assert_all();
+        sums.assert_includes(&[AROUND_BIAS, NOT_READABLE, AT_LIMIT]);
+        answers.assert_met(&at_each_bias(self.own));
+        changed.assert_includes(self.changed);
     }
 
     /// Jobs of every make, each with a place made for another: the job is opened first, whatever
@@ -65,7 +79,7 @@ impl<A: PartialEq + Debug> OnPlaces<A> {
             let job = any_job(&mut r);
             let place = any_place(&mut r, &parts);
             let answer = self.compare(&job.bytes, &place.bytes);
-            answers.count(job.n(), answer);
+            answers.count(job.n(), self.named(&answer));
             if answer == Err(13) {
                 lengths.count(job.n(), place.bytes.len());
             }
@@ -77,31 +91,4 @@ impl<A: PartialEq + Debug> OnPlaces<A> {
         answers.assert_includes(&and_those_of_open(&[Err(13)]));
         lengths.assert_includes(&DIMENSIONS.map(|n| 3 * n));
     }
-}
-
-/// What the largest value of a facet or of a simplex can be.
-const AT_LIMIT: [&str; 4] = [
-    "a facet at the limit",
-    "a facet one past the limit",
-    "a simplex at the limit",
-    "a simplex one past the limit",
-];
-
-/// Counts a place whose facet, or whose simplex, has its largest value at the readable limit or
-/// one past it.
-fn count_at_limit(limits: &mut Tally<&'static str>, parts: &Parts, place: &[u8]) {
-    let n = parts.n;
-    let Some(place) = Place::read(n, place) else { return };
-    let vertices = [&place.facet.vertices()[..n], &place.simplex().0.vertices()[..=n]];
-    for (names, vertices) in AT_LIMIT.chunks(2).zip(vertices) {
-        let past = largest_value(&parts.opened(), vertices).map(|v| v - Limits::of(n).readable);
-        if let Some(past @ (0 | 1)) = past {
-            limits.count(n, names[past as usize]);
-        }
-    }
-}
-
-/// An operation's own answers and the refusals of Open.
-pub fn and_those_of_open(own: &[Answer]) -> Vec<Answer> {
-    (1..=8).map(Err).chain(own.iter().copied()).collect()
 }

@@ -1,6 +1,7 @@
 //! Body against the reference.
 
 use library::ffi::Library;
+use reference::build::{case_a, case_c, Parts};
 use reference::generate::{any_job, JobTally, Random};
 use reference::limits::DIMENSIONS;
 use reference::product::{Product, Reference};
@@ -26,5 +27,21 @@ fn body_is_the_reference() {
     for n in DIMENSIONS {
         let indices = (0..=n as u64).map(Ok);
         answers.assert_met_in(n, &indices.chain((1..=8).chain([12]).map(Err)).collect::<Vec<_>>());
+    }
+}
+
+/// A body is the same part of the job at every bias.
+#[test]
+fn every_bias() {
+    for parts in [case_a(), case_c(3), case_c(4)] {
+        for index in 0..=parts.n as u64 + 1 {
+            let wanted = Reference.body(&parts.bytes(), index);
+            assert_eq!(wanted.is_ok(), index <= parts.n as u64);
+            for bias in 0..=255 {
+                let job = Parts { bias, ..parts.clone() }.bytes();
+                assert_eq!(Reference.body(&job, index), wanted, "bias {bias}");
+                assert_eq!(Library.body(&job, index), wanted, "bias {bias}");
+            }
+        }
     }
 }

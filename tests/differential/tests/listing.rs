@@ -4,12 +4,13 @@ use std::io::{Read, Write};
 use std::path::PathBuf;
 use std::process::{Command, Stdio};
 
-use library::on_places::and_those_of_open;
+use library::answers::{and_those_of_open, Answers};
 use reference::build::{case_a, case_c, gathered, place, power_of, term, Parts};
-use reference::generate::{any_job, valid, JobTally, Random};
+use reference::generate::{any_job, valid, Bias, JobTally, Random};
 use reference::listing::listing;
 use reference::marked::{CASE_A_LISTING, CASE_C_4_LISTING};
-use reference::tally::{Answer, Tally};
+use reference::sums_met::{SumsMet, AROUND_BIAS, NOT_READABLE};
+use reference::tally::{Answer, Named, Tally};
 
 /// The program; the test fails if it has not been built.
 fn program() -> PathBuf {
@@ -94,38 +95,58 @@ fn answer(text: &str) -> Answer {
     }
 }
 
-#[test]
-fn listing_is_the_reference() {
+/// Jobs to list, each with its dimension and the name of its bias.
+fn jobs() -> Vec<(usize, Bias, Vec<u8>)> {
     let mut r = Random::new(23);
-    let (mut made, mut kinds) = (JobTally::default(), Tally::default());
+    let (mut any, mut made) = (JobTally::default(), Tally::default());
+    let mut sums = SumsMet::default();
     let mut jobs = Vec::new();
     for _ in 0..6_000 {
         let job = any_job(&mut r);
-        made.count(&job);
-        jobs.push((job.n(), job.bytes));
-        let (kind, parts) = valid(&mut r);
-        kinds.count(parts.n, kind);
-        jobs.push((parts.n, parts.bytes()));
+        any.count(&job);
+        jobs.push((job.n(), job.made.bias, job.bytes));
+        let (names, parts) = valid(&mut r);
+        made.count(parts.n, names);
+        sums.count(&parts.opened(), &parts.start);
+        jobs.push((parts.n, names.bias, parts.bytes()));
     }
+    any.assert_all();
     made.assert_all();
-    kinds.assert_all();
+    sums.assert_includes(&[AROUND_BIAS, NOT_READABLE]);
+    jobs
+}
+
+/// The listing of the same job at bias 0.
+fn listing_at_bias_0(job: &[u8]) -> String {
+    let mut plain = job.to_vec();
+    plain.iter_mut().skip(3).take(1).for_each(|bias| *bias = 0);
+    listing(&plain)
+}
+
+#[test]
+fn listing_is_the_reference() {
+    let jobs = jobs();
     // Most of the time goes into starting the program, so a few are started side by side.
-    let compare = |(n, job): &(usize, Vec<u8>)| {
+    let compare = |(n, bias, job): &(usize, Bias, Vec<u8>)| {
         let wanted = listing(job);
         assert_eq!(printed(job), wanted, "{job:?}");
-        (*n, answer(&wanted))
+        (*n, *bias, answer(&wanted), wanted != listing_at_bias_0(job))
     };
-    let mut answers = Tally::default();
+    let (mut answers, mut changed) = (Answers::default(), Tally::default());
     std::thread::scope(|scope| {
         let parts = jobs.chunks(jobs.len() / 4);
         let compare_all = |part: &[_]| part.iter().map(compare).collect::<Vec<_>>();
         let threads: Vec<_> = parts.map(|part| scope.spawn(move || compare_all(part))).collect();
         for thread in threads {
-            for (n, answer) in thread.join().expect("no difference") {
-                answers.count(n, answer);
+            for (n, bias, answer, differs) in thread.join().expect("no difference") {
+                answers.count(n, bias, answer);
+                if differs {
+                    changed.count(n, bias);
+                }
             }
         }
     });
     let own = [Err(9), Err(10), Err(11), Ok("loop"), Ok("edge"), Ok("limit")];
     answers.assert_includes(&and_those_of_open(&own));
+    changed.assert_includes(&Bias::all()[1..]);
 }

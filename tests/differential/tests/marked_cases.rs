@@ -1,4 +1,4 @@
-//! Cases A to J, their like in dimension 4 and the wrong turns on the proved library.
+//! Cases A to J, their like in dimension 4 and at a bias, and the wrong turns on the proved library.
 
 use library::ffi::Library;
 use reference::marked;
@@ -11,6 +11,11 @@ fn cases_a_to_j() {
 #[test]
 fn dimension_4() {
     marked::dimension_4(&Library);
+}
+
+#[test]
+fn bias() {
+    marked::bias(&Library);
 }
 
 #[test]

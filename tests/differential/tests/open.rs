@@ -1,7 +1,7 @@
 //! Open against the reference.
 
 use library::ffi::Library;
-use reference::build::{assemble, case_a, case_c, exponents};
+use reference::build::{assemble, case_a, case_c, exponents, Parts};
 use reference::generate::{any_job, JobTally, Random};
 use reference::limits::{Limits, DIMENSIONS};
 use reference::product::{Product, Reference};
@@ -45,6 +45,21 @@ fn every_cut_and_every_byte() {
     }
 }
 
+/// Refusal 2 is for byte 0 alone: a job opens at every bias, to the same answer.
+#[test]
+fn every_bias() {
+    for parts in [case_a(), case_c(3), case_c(4)] {
+        let wanted = Reference.open(&parts.bytes());
+        assert!(wanted.is_ok());
+        for bias in 0..=255 {
+            let job = Parts { bias, ..parts.clone() }.bytes();
+            assert_eq!(job[3], bias);
+            assert_eq!(compare(&job), Ok("opens"));
+            assert_eq!(Library.open(&job), wanted, "bias {bias}");
+        }
+    }
+}
+
 /// Every count of terms up to one more than any dimension has, in each polynomial.
 #[test]
 fn every_count_of_terms() {
@@ -56,7 +71,7 @@ fn every_count_of_terms() {
                 bodies[k] = terms.flat_map(|e| [[1, 0, 0, 0], *e].concat()).collect();
                 let opens = (1..=Limits::of(n).terms).contains(&count);
                 let wanted = if opens { Ok("opens") } else { Err(5) };
-                assert_eq!(compare(&assemble(n, &bodies)), wanted, "{count} terms");
+                assert_eq!(compare(&assemble(n, 0, &bodies)), wanted, "{count} terms");
             }
         }
     }

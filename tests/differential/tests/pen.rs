@@ -1,12 +1,14 @@
 //! Pen against the reference.
 
+use library::answers::{and_those_of_open, Answers};
 use library::ffi::Library;
-use library::on_places::and_those_of_open;
 use reference::build::Parts;
 use reference::generate::{any_job, any_place, valid, JobTally, PlaceTally, Random};
+use reference::grid::Place;
 use reference::operations::Move;
 use reference::product::{Product, Reference};
-use reference::tally::{Answer, Tally};
+use reference::sums_met::{SumsMet, AROUND_BIAS, NOT_READABLE};
+use reference::tally::Tally;
 
 /// A move by its name and with its floats as bits.
 fn bits(answer: &Result<Move, u8>) -> Result<(&'static str, [u64; 3]), u8> {
@@ -39,14 +41,14 @@ fn some_places(r: &mut Random, parts: &Parts, made: &mut PlaceTally) -> Vec<u8> 
 fn pen_is_the_reference() {
     let mut r = Random::new(22);
     let (mut jobs, mut made) = (JobTally::default(), PlaceTally::default());
-    let mut answers: Tally<Answer> = Tally::default();
+    let mut answers = Answers::default();
     for _ in 0..60_000 {
-        let (_, parts) = valid(&mut r);
+        let (mut names, parts) = valid(&mut r);
         let (mut n, mut job) = (parts.n, parts.bytes());
         if r.once_in(5) {
             let other = any_job(&mut r);
             jobs.count(&other);
-            (n, job) = (other.n(), other.bytes);
+            (n, names, job) = (other.n(), other.made, other.bytes);
         }
         let places = some_places(&mut r, &parts, &mut made);
         let m = (places.len() / (3 * parts.n)) as u64;
@@ -59,11 +61,35 @@ fn pen_is_the_reference() {
             let wanted = bits(&Reference.pen(&job, &places, closed, k));
             let found = bits(&Library.pen(&job, &places, closed, k));
             assert_eq!(found, wanted, "{k} {closed} of {places:?} in {job:?}");
-            answers.count(n, wanted.map(|(name, _)| name));
+            answers.count(n, names.bias, wanted.map(|(name, _)| name));
         }
     }
     jobs.assert_all();
     made.assert_all();
     let own = [9, 10, 11, 12, 13].map(Err).into_iter().chain(["lift", "draw", "close"].map(Ok));
     answers.assert_met(&and_those_of_open(&own.collect::<Vec<_>>()));
+}
+
+/// Places with sums around the bias and with sums that are not readable at a bias come up, and the
+/// bias changes moves.
+#[test]
+fn pen_goes_by_the_bias() {
+    let mut r = Random::new(25);
+    let (mut changed, mut sums) = (Tally::default(), SumsMet::default());
+    for _ in 0..20_000 {
+        let (_, parts) = valid(&mut r);
+        let (job, at_zero) = (parts.bytes(), Parts { bias: 0, ..parts.clone() }.bytes());
+        let bytes = any_place(&mut r, &parts).bytes;
+        let Some(place) = Place::read(parts.n, &bytes) else { continue };
+        let wanted = bits(&Reference.pen(&job, &bytes, false, 0));
+        assert_eq!(bits(&Library.pen(&job, &bytes, false, 0)), wanted, "{place:?} in {job:?}");
+        sums.count(&parts.opened(), &place);
+        let plain = bits(&Reference.pen(&at_zero, &bytes, false, 0));
+        if wanted != plain {
+            changed.count(parts.n, (plain.map(|(name, _)| name), wanted.map(|(name, _)| name)));
+        }
+    }
+    sums.assert_includes(&[AROUND_BIAS, NOT_READABLE]);
+    let lift = Ok("lift");
+    changed.assert_met(&[(lift, lift), (lift, Err(11)), (Err(11), lift)]);
 }

@@ -4,7 +4,6 @@ use library::ffi::Library;
 use library::on_places::OnPlaces;
 use reference::operations::Step;
 use reference::product::{Product, Reference};
-use reference::tally::Answer;
 
 const STEP: OnPlaces<Step> = OnPlaces {
     library: |job, place| Library.step(job, place),
@@ -19,25 +18,31 @@ const STEP: OnPlaces<Step> = OnPlaces {
         Step::Edge => "edge",
         Step::Limit => "limit",
     },
+    own: &[
+        Err(13),
+        Err(9),
+        Err(10),
+        Err(11),
+        Ok("flat, side 0"),
+        Ok("flat, side 1"),
+        Ok("bent, side 0"),
+        Ok("bent, side 1"),
+        Ok("edge"),
+        Ok("limit"),
+    ],
+    changed: &[
+        (Ok("flat, side 0"), Ok("bent, side 0")),
+        (Ok("bent, side 1"), Ok("flat, side 1")),
+        (Ok("flat, side 0"), Err(11)),
+        (Err(11), Ok("flat, side 0")),
+        (Err(11), Ok("edge")),
+        (Err(11), Ok("limit")),
+    ],
 };
-
-/// Step's own answers.
-const OWN: [Answer; 10] = [
-    Err(13),
-    Err(9),
-    Err(10),
-    Err(11),
-    Ok("flat, side 0"),
-    Ok("flat, side 1"),
-    Ok("bent, side 0"),
-    Ok("bent, side 1"),
-    Ok("edge"),
-    Ok("limit"),
-];
 
 #[test]
 fn step_is_the_reference() {
-    STEP.valid_jobs(17, 30_000, 6).assert_met(&OWN);
+    STEP.valid_jobs(17, 30_000, 6);
 }
 
 /// The job is opened first, whatever the place.

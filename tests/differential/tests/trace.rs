@@ -1,11 +1,13 @@
 //! Trace against the reference: answer and every byte of the buffer, with no space, space for
 //! one, one less than needed, just enough, more, and lengths between two counts of places.
 
+use library::answers::{and_those_of_open, Answers};
 use library::ffi::Library;
-use library::on_places::and_those_of_open;
 use reference::generate::{any_job, valid, JobTally, Random};
-use reference::operations::Verdict;
+use reference::job::Job;
+use reference::operations::{trace_places, Verdict};
 use reference::product::{Product, Reference};
+use reference::sums_met::{SumsMet, AROUND_BIAS, NOT_READABLE};
 use reference::tally::{Answer, Tally};
 
 /// Trace's own answers.
@@ -31,46 +33,82 @@ fn compare(r: &mut Random, job: &[u8], length: usize) -> Result<(Verdict, usize)
 }
 
 /// An answer by its name.
-fn name(answer: Result<(Verdict, usize), u8>) -> Answer {
+fn name<T>(answer: Result<(Verdict, T), u8>) -> Answer {
     answer.map(|(verdict, _)| verdict.word())
 }
 
 #[test]
 fn trace_is_the_reference() {
     let mut r = Random::new(19);
-    let mut kinds = Tally::default();
-    let (mut with_space, mut around): (Tally<Answer>, Tally<Answer>) = Default::default();
+    let mut made = Tally::default();
+    let (mut with_space, mut around) = (Answers::default(), Answers::default());
     for _ in 0..100_000 {
-        let (kind, parts) = valid(&mut r);
+        let (names, parts) = valid(&mut r);
         let job = parts.bytes();
         let size = 3 * parts.n;
-        kinds.count(parts.n, kind);
+        made.count(parts.n, names);
         // Space enough for most traces first; then one length around the count.
         let answer = compare(&mut r, &job, size * 150);
-        with_space.count(parts.n, name(answer));
+        with_space.count(parts.n, names.bias, name(answer));
         let count = answer.map_or(0, |(_, count)| count);
         let space = r.pick(&[0, 1, count.max(1) - 1, count, count + 1, count + 7]).min(20);
         let length = size * space + r.pick(&[0, 0, 1, size - 1]);
-        around.count(parts.n, name(compare(&mut r, &job, length)));
+        around.count(parts.n, names.bias, name(compare(&mut r, &job, length)));
     }
-    kinds.assert_all();
+    made.assert_all();
     with_space.assert_met(&OWN);
     around.assert_met(&OWN);
+}
+
+/// Traces that the bias changes, from what to what.
+const CHANGED: [(Answer, Answer); 7] = [
+    (Ok("loop"), Ok("loop")),
+    (Ok("loop"), Ok("edge")),
+    (Ok("edge"), Ok("edge")),
+    (Ok("edge"), Err(11)),
+    (Err(11), Ok("loop")),
+    (Err(11), Ok("edge")),
+    (Err(11), Ok("limit")),
+];
+
+/// Sums around the bias and sums that are not readable at a bias come up where traces begin and
+/// end, and the bias changes traces.
+#[test]
+fn trace_goes_by_the_bias() {
+    let mut r = Random::new(24);
+    let (mut changed, mut sums) = (Tally::default(), SumsMet::default());
+    for _ in 0..20_000 {
+        let (_, parts) = valid(&mut r);
+        let job = parts.opened();
+        _ = compare(&mut r, &parts.bytes(), 3 * parts.n * 60);
+        let traced = trace_places(&job, 60);
+        let at_zero = trace_places(&Job { bias: 0, ..job.clone() }, 60);
+        sums.count(&job, &job.start);
+        if let Some(last) = traced.iter().flat_map(|(_, places)| places).last() {
+            sums.count(&job, last);
+        }
+        if traced != at_zero {
+            changed.count(parts.n, (name(at_zero), name(traced)));
+        }
+    }
+    sums.assert_includes(&[AROUND_BIAS, NOT_READABLE]);
+    changed.assert_includes(&CHANGED);
 }
 
 /// All the named spaces, on closed and open curves.
 #[test]
 fn each_space_around_the_count() {
     let mut r = Random::new(20);
-    let mut answers: Tally<Answer> = Tally::default();
+    let mut answers = Answers::default();
     for _ in 0..8_000 {
-        let (_, parts) = valid(&mut r);
+        let (names, parts) = valid(&mut r);
         let job = parts.bytes();
         let size = 3 * parts.n;
         let count = compare(&mut r, &job, size * 100).map_or(0, |(_, count)| count);
         for space in [0, 1, count.max(1) - 1, count, count + 1, count + 5] {
             for more in [0, 1, size - 1] {
-                answers.count(parts.n, name(compare(&mut r, &job, size * space + more)));
+                let answer = compare(&mut r, &job, size * space + more);
+                answers.count(parts.n, names.bias, name(answer));
             }
         }
     }

@@ -6,12 +6,13 @@ use crate::cartesian::cartesian;
 use crate::crossed::Term;
 use crate::grid::{vertex, Facet, Place};
 use crate::job::Job;
-use crate::limits::{LARGEST_DEGREE, MOST};
+use crate::limits::{LARGEST_COEFFICIENT, LARGEST_DEGREE, MOST};
 
 /// The parts of a job.
 #[derive(Clone, Debug)]
 pub struct Parts {
     pub n: usize,
+    pub bias: u8,
     pub ends: Vec<(i64, i64)>,
     pub polynomials: Vec<Vec<Term>>,
     pub start: Place,
@@ -53,6 +54,11 @@ pub fn gathered(terms: &[Term]) -> Vec<Term> {
     all.retain(|t| t.coefficient != 0);
     all.sort_by_key(|t| t.exponents);
     all
+}
+
+/// Whether there are terms and each coefficient is within its limit.
+pub fn within_limits(terms: &[Term]) -> bool {
+    !terms.is_empty() && terms.iter().all(|t| t.coefficient.abs() <= LARGEST_COEFFICIENT)
 }
 
 /// The product of two polynomials.
@@ -103,13 +109,14 @@ impl Parts {
 
     /// The bytes of the job.
     pub fn bytes(&self) -> Vec<u8> {
-        assemble(self.n, &self.bodies())
+        assemble(self.n, self.bias, &self.bodies())
     }
 
     /// The parts as Open would find them, for judging facets before the start is chosen.
     pub fn opened(&self) -> Job {
         Job {
             n: self.n,
+            bias: self.bias,
             bodies: Vec::new(),
             ends: self.ends.clone(),
             polynomials: self.polynomials.clone(),
@@ -119,8 +126,8 @@ impl Parts {
 }
 
 /// Contents and then the bodies; offsets and lengths are cut to 16 bits.
-pub fn assemble(n: usize, bodies: &[Vec<u8>]) -> Vec<u8> {
-    let mut out = vec![1, n as u8, n as u8 + 1, 0];
+pub fn assemble(n: usize, bias: u8, bodies: &[Vec<u8>]) -> Vec<u8> {
+    let mut out = vec![1, n as u8, n as u8 + 1, bias];
     let mut offset = 4 + 4 * bodies.len();
     for body in bodies {
         out.extend_from_slice(&(offset as u16).to_le_bytes());
@@ -137,6 +144,7 @@ pub fn assemble(n: usize, bodies: &[Vec<u8>]) -> Vec<u8> {
 pub fn case_a() -> Parts {
     Parts {
         n: 2,
+        bias: 0,
         ends: vec![(-1, 1), (-1, 1)],
         polynomials: vec![vec![term(-1, &[0, 0]), term(2, &[0, 2]), term(2, &[2, 0])]],
         start: place(&[0, 0], &[1], 0),
@@ -149,6 +157,7 @@ pub fn case_c(n: usize) -> Parts {
     let masks: Vec<u8> = (1..n).map(|k| (1 << k) - 1).collect();
     Parts {
         n,
+        bias: 0,
         ends: vec![(0, 1); n],
         polynomials: (1..n).map(|axis| vec![term(1, &power_of(axis, 1))]).collect(),
         start: place(&vec![0; n], &masks, 0),

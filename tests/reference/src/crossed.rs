@@ -1,7 +1,7 @@
-//! "Crossed": values, readable, the determinant, the tie rule, the point, over any n.
+//! "Crossed": values, readable, the bias, the determinant, the tie rule, the point, over any n.
 
 use crate::grid::{has, Facet, Vertex};
-use crate::limits::MOST;
+use crate::limits::{Limits, MOST};
 
 /// A term: coefficient and exponents for axes 1 to 4.
 #[derive(Clone, Copy, PartialEq, Eq, Debug)]
@@ -11,7 +11,7 @@ pub struct Term {
 }
 
 /// The polynomial's exact sum at a vertex; 0 to the power 0 is 1.
-pub fn value(polynomial: &[Term], v: &Vertex) -> i128 {
+pub fn sum(polynomial: &[Term], v: &Vertex) -> i128 {
     let mut sum = 0;
     for term in polynomial {
         let mut product = term.coefficient as i128;
@@ -25,17 +25,31 @@ pub fn value(polynomial: &[Term], v: &Vertex) -> i128 {
     sum
 }
 
+/// What a readable sum counts as: 0 if it is no larger in size than the bias.
+pub fn value(bias: u8, sum: i128) -> i128 {
+    if sum.abs() <= bias as i128 {
+        0
+    } else {
+        sum
+    }
+}
+
 /// A column of the determinant D: 1, f1(w), .., f(n-1)(w) (the first n entries).
 pub type Column = [i128; MOST];
 
-/// The column of a vertex.
-pub fn column(polynomials: &[Vec<Term>], v: &Vertex) -> Column {
+/// The column of a vertex; none if a sum there is not readable, which is tested before the bias.
+pub fn column(polynomials: &[Vec<Term>], bias: u8, v: &Vertex) -> Option<Column> {
+    let limits = Limits::of(polynomials.len() + 1);
     let mut column = [0; MOST];
     column[0] = 1;
-    for (k, polynomial) in polynomials.iter().enumerate() {
-        column[k + 1] = value(polynomial, v);
+    for (entry, polynomial) in column[1..].iter_mut().zip(polynomials) {
+        let sum = sum(polynomial, v);
+        if !limits.is_readable(sum) {
+            return None;
+        }
+        *entry = value(bias, sum);
     }
-    column
+    Some(column)
 }
 
 /// The determinant of a matrix of n columns, of the rows from `row` on and the columns not yet
@@ -119,6 +133,35 @@ mod tests {
         assert_eq!(floor(-3, -10), 0);
         assert_eq!(floor(-20, 10), -2);
         assert_eq!(floor(7, 2), 3);
+    }
+
+    /// At each bias: its size counts as 0 on both sides, 1 more does not.
+    #[test]
+    fn values_by_the_bias() {
+        for bias in 0..=255 {
+            let size = bias as i128;
+            for sum in -300..=300 {
+                let counts = sum < -size || size < sum;
+                assert_eq!(value(bias, sum), if counts { sum } else { 0 }, "{sum} at {bias}");
+            }
+        }
+    }
+
+    /// The readable limit is for the sum, at each bias; 1 past it there is no column.
+    #[test]
+    fn readable_before_the_bias() {
+        for n in DIMENSIONS {
+            let limit = Limits::of(n).readable;
+            for constant in [limit, limit + 1, -limit, -limit - 1, 255, -256] {
+                let term = Term { coefficient: constant as i64, exponents: [0; MOST] };
+                for bias in [0, 1, 255] {
+                    let found = column(&vec![vec![term]; n - 1], bias, &[0; MOST]);
+                    let values = found.map(|column| column[1..n].to_vec());
+                    let readable = constant.abs() <= limit;
+                    assert_eq!(values, readable.then(|| vec![value(bias, constant); n - 1]));
+                }
+            }
+        }
     }
 
     /// Every column of dimension n whose values are from -size to size.

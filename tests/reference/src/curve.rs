@@ -7,7 +7,7 @@ use crate::cartesian::cartesian;
 use crate::crossed::{column, is_crossed, Column};
 use crate::grid::{chains, orders, Facet, Place, Simplex, Vertex};
 use crate::job::Job;
-use crate::limits::{Limits, MOST};
+use crate::limits::MOST;
 
 /// Every lattice vertex of the box.
 pub fn vertices_of_box(job: &Job) -> Vec<Vertex> {
@@ -17,7 +17,7 @@ pub fn vertices_of_box(job: &Job) -> Vec<Vertex> {
 /// The crossed facets of a box, each with those that share a readable simplex with it.
 pub struct Joints {
     n: usize,
-    /// The vertices of the box with readable values.
+    /// The vertices of the box with readable values, and what these count as.
     readable: HashMap<Vertex, Column>,
     shares: HashMap<Facet, Vec<Facet>>,
 }
@@ -25,11 +25,9 @@ pub struct Joints {
 impl Joints {
     pub fn of(job: &Job) -> Joints {
         let vertices = vertices_of_box(job);
-        let limits = Limits::of(job.n);
-        let with_column = vertices.iter().map(|v| (*v, column(&job.polynomials, v)));
-        let readable = with_column
-            .filter(|(_, column)| column[1..job.n].iter().all(|&value| limits.is_readable(value)));
-        let mut joints = Joints { n: job.n, readable: readable.collect(), shares: HashMap::new() };
+        let with_column = |v: &Vertex| Some((*v, column(&job.polynomials, job.bias, v)?));
+        let readable = vertices.iter().filter_map(with_column).collect();
+        let mut joints = Joints { n: job.n, readable, shares: HashMap::new() };
         for &lowest in &vertices {
             for &masks in chains(job.n) {
                 let facet = Facet { n: job.n, lowest, masks };

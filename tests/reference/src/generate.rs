@@ -2,18 +2,21 @@
 //!
 //! Valid jobs (`kinds`) lean to what is easy to get wrong: small boxes with many exact zeros at
 //! grid points, values at the readable limit, the largest coefficients and boxes, closed curves,
-//! all terms that a body may hold. Their starts are searched for, so that most are crossed and
-//! traces are long. Other jobs (`changes`) are valid ones changed at the limits of a field, cut,
+//! all terms that a body may hold, sheets that almost touch. Each has a bias (`biases`), and sums at
+//! the bias and 1 past it. Their starts are searched for, so that most are crossed and traces are
+//! long. Other jobs (`changes`) are valid ones changed at the limits of a field, cut,
 //! lengthened or rebuilt; and plain noise. `places` has places to judge and to step from.
 //!
 //! What is tried has a name, and each input says by which names it was made: a test counts them.
 
+mod biases;
 mod changes;
 mod kinds;
 mod places;
 mod random;
 
+pub use biases::Bias;
 pub use changes::{any_job, AnyJob, Change, Damage, JobTally};
-pub use kinds::{valid, valid_small, Kind};
+pub use kinds::{valid, valid_small, Kind, Made};
 pub use places::{any_place, AnyPlace, PlaceDamage, PlaceKind, PlaceTally};
 pub use random::Random;

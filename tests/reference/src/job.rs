@@ -8,6 +8,8 @@ use crate::limits::{Limits, DIMENSIONS, LARGEST_COEFFICIENT, LARGEST_COORDINATE,
 #[derive(Clone, Debug)]
 pub struct Job {
     pub n: usize,
+    /// A value no larger in size counts as 0.
+    pub bias: u8,
     /// Offset and length of each body: box, the n - 1 polynomials, start.
     pub bodies: Vec<(usize, usize)>,
     /// Per axis the low and high end.
@@ -96,8 +98,8 @@ pub fn open(job: &[u8]) -> Result<Job, u8> {
     if job.len() < 4 {
         return Err(1);
     }
-    // 2: byte 0 or 3 wrong.
-    if job[0] != 1 || job[3] != 0 {
+    // 2: byte 0 wrong. Byte 3 is the bias, which may be any byte.
+    if job[0] != 1 {
         return Err(2);
     }
     // 3: dimension.
@@ -119,5 +121,5 @@ pub fn open(job: &[u8]) -> Result<Job, u8> {
     let polynomials = polynomials.ok_or(7)?;
     // 8: start's chain or side malformed.
     let start = Place::read(n, body(n)).ok_or(8)?;
-    Ok(Job { n, bodies, ends, polynomials, start })
+    Ok(Job { n, bias: job[3], bodies, ends, polynomials, start })
 }

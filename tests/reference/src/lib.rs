@@ -18,4 +18,5 @@ pub mod listing;
 pub mod marked;
 pub mod operations;
 pub mod product;
+pub mod sums_met;
 pub mod tally;

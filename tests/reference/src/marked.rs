@@ -1,9 +1,11 @@
-//! "Marked cases" A to J, their like in dimension 4, and the wrong turns, as checks of any product.
+//! "Marked cases" A to J, their like in dimension 4 and at a bias, and the wrong turns, as checks of
+//! any product.
 
-use crate::build::{case_a, case_c, exponents, place, term, Parts};
+use crate::build::{case_a, case_c, exponents, gathered, place, power_of, term, Parts};
 use crate::crossed::Term;
 use crate::grid::{vertex, Place};
-use crate::operations::{Move, Step, Verdict};
+use crate::limits::{Limits, DIMENSIONS};
+use crate::operations::{with_start, Move, Step, Verdict};
 use crate::product::Product;
 
 /// The bytes of case A's job, as the paper lays them out.
@@ -168,7 +170,6 @@ pub fn dimension_4(p: &dyn Product) {
     assert_eq!(p.judge(&c.bytes(), &e.bytes()), Ok(false));
     // Case A's circle with z and w is a loop of 14; with space for 13 it is full.
     let circle = Parts {
-        n: 4,
         ends: vec![(-1, 1); 4],
         polynomials: vec![
             case_a().polynomials[0].clone(),
@@ -176,6 +177,7 @@ pub fn dimension_4(p: &dyn Product) {
             vec![term(1, &[0, 0, 0, 1])],
         ],
         start: place(&[0, 0, 0, 0], &[1, 5, 13], 0),
+        ..case_c(4)
     };
     let (verdict, places) = traced(p, &circle.bytes(), 4, 14);
     assert_eq!((verdict, places.len()), (Verdict::Loop, 14));
@@ -259,6 +261,124 @@ fn limits_of_dimension_4(p: &dyn Product) {
         let terms = [(constant, 0), (size, 1)].map(|(c, e)| term(c, &[e]));
         let terms = terms.into_iter().filter(|t| t.coefficient != 0).collect();
         assert_eq!(along_x(4, terms, lowest), answer, "{size} {constant} {lowest}");
+    }
+}
+
+/// Request 2.7: the bias.
+pub fn bias(p: &dyn Product) {
+    // Refusal 2 is for byte 0 alone; what Open and Body answer does not depend on byte 3.
+    for bias in [0, 1, 255] {
+        let mut job = Parts { bias, ..case_a() }.bytes();
+        assert_eq!(p.open(&job), Ok((2, vec![3])));
+        assert_eq!(p.body(&job, 2), Ok((48, 6)));
+        job[0] = 0;
+        assert_eq!(p.open(&job), Err(2));
+    }
+    // A: at bias 1 the values -1 and 1 of its start both count as 0.
+    let a = Parts { bias: 1, ..case_a() };
+    assert_eq!(p.judge(&a.bytes(), &a.start.bytes()), Ok(false));
+    assert_eq!(p.trace(&a.bytes(), &mut [0; 54]), Err(11));
+    for n in DIMENSIONS {
+        for bias in [1, 20, 255] {
+            values_around_the_bias(p, n, bias);
+        }
+        readable_before_the_bias(p, n);
+        pieces_joined_by_the_bias(p, n);
+    }
+}
+
+/// Case C with two values in place of 0 and 1.
+fn case_c_between(n: usize, low: i64, high: i64) -> Parts {
+    let mut parts = case_c(n);
+    for polynomial in &mut parts.polynomials {
+        let axis = Term { coefficient: high - low, ..polynomial[0] };
+        *polynomial = gathered(&[term(low, &[]), axis]);
+    }
+    parts
+}
+
+/// A value of the bias's size counts as 0, on both sides, and 1 more does not: whether the start of
+/// case C is crossed, and where its point lies on the axes of the polynomials.
+fn values_around_the_bias(p: &dyn Product, n: usize, bias: u8) {
+    let b = bias as i64;
+    for (low, high, at) in [
+        (-b, b + 1, Ok(0)),
+        (b, b + 1, Ok(0)),
+        (0, b + 1, Ok(0)),
+        (-b - 1, b + 1, Ok(512)),
+        (-b, b, Err(11)),
+        (-b - 1, b, Err(11)),
+        (-b - 1, -b, Err(11)),
+        (b + 1, b + 2, Err(11)),
+    ] {
+        let parts = Parts { bias, ..case_c_between(n, low, high) };
+        let (job, start) = (parts.bytes(), parts.start.bytes());
+        assert_eq!(p.judge(&job, &start), Ok(at.is_ok()), "{low} and {high} at {bias}");
+        let wanted = at.map(|steps: i64| vertex(&vec![steps; n - 1]));
+        assert_eq!(p.point(&job, &start), wanted, "{low} and {high} at {bias}");
+        let millimetres = |v: [i64; 4]| [v[0], v[1], v[2]].map(|steps| steps as f64 / 1024.0);
+        assert_eq!(p.pen(&job, &start, false, 0), wanted.map(|v| Move::Lift(millimetres(v))));
+        // Where low counts as 0, all is as in C.
+        if at == Ok(0) {
+            let (verdict, places) = traced(p, &job, n, 9);
+            assert_eq!((verdict, places.len()), (Verdict::Edge, n + 1));
+            assert_eq!((verdict, places), traced(p, &case_c(n).bytes(), n, 9));
+        }
+    }
+    // Without the bias, the second of them has no zero and the fifth has one.
+    let plain = |low, high| case_c_between(n, low, high).bytes();
+    assert_eq!(p.judge(&plain(b, b + 1), &case_c(n).start.bytes()), Ok(false));
+    assert_eq!(p.judge(&plain(-b, b), &case_c(n).start.bytes()), Ok(true));
+}
+
+/// A curve along axis 1 whose first value is readable up to x = 16, at bias 0 and at the largest.
+fn readable_before_the_bias(p: &dyn Product, n: usize) {
+    let largest = (Limits::of(n).readable / 256) as i64;
+    let mut polynomials = vec![vec![term(largest, &[2, 1])]];
+    polynomials.extend((3..=n).map(|axis| vec![term(256, &power_of(axis, 1))]));
+    let mut ends = vec![(0, 1); n];
+    ends[0] = (14, 17);
+    let masks: Vec<u8> = (1..n).map(|k| (1 << (k + 1)) - 2).collect();
+    let at = |x: i64| place(&vertex(&[x])[..n], &masks, 0);
+    for bias in [0, 255] {
+        let polynomials = polynomials.clone();
+        let parts = Parts { n, bias, ends: ends.clone(), polynomials, start: at(15) };
+        let job = parts.bytes();
+        assert_eq!(p.judge(&job, &at(16).bytes()), Ok(true));
+        assert_eq!(p.step(&job, &at(16).bytes()), Ok(Step::Limit));
+        assert_eq!(p.judge(&job, &at(17).bytes()), Err(10));
+        assert_eq!(p.point(&job, &at(17).bytes()), Err(10));
+        let (verdict, places) = traced(p, &job, n, 9);
+        assert_eq!((verdict, places.len()), (Verdict::Limit, n + 1));
+        assert_eq!(places[n], at(16));
+    }
+}
+
+/// 2 x^4 - 5 x^2 + 4 y^2 + 1 is -2 at x = -1 and x = 1 on axis 1, 1 between them and at least 2
+/// around: two loops, which bias 1 joins. Turning back goes the same way.
+fn pieces_joined_by_the_bias(p: &dyn Product, n: usize) {
+    let lobes = [(1, [0, 0]), (4, [0, 2]), (-5, [2, 0]), (2, [4, 0])];
+    let mut polynomials = vec![lobes.map(|(c, exponents)| term(c, &exponents)).to_vec()];
+    polynomials.extend((3..=n).map(|axis| vec![term(2, &power_of(axis, 1))]));
+    let mut ends = vec![(-1, 1); n];
+    ends[0] = (-2, 2);
+    let start = place(&vertex(&[1])[..n], &[1, 5, 13][..n - 1], 0);
+    let left = place(&vertex(&[-1])[..n], &[2, 6, 14][..n - 1], 0);
+    let between = place(&[0; 4][..n], &[2, 6, 14][..n - 1], 0);
+    for (bias, count) in [(0, 4 * n - 2), (1, 8 * n - 2)] {
+        let (ends, polynomials) = (ends.clone(), polynomials.clone());
+        let job = Parts { n, bias, ends, polynomials, start }.bytes();
+        let (verdict, places) = traced(p, &job, n, 40);
+        assert_eq!((verdict, places.len()), (Verdict::Loop, count));
+        let joins = |other: &Place| places.iter().any(|place| place.facet == other.facet);
+        assert_eq!((joins(&left), joins(&between)), (bias == 1, bias == 1));
+        // The left loop is there at both, and between them is a vertex that counts as 0.
+        assert_eq!(p.judge(&job, &left.bytes()), Ok(true));
+        let point = if bias == 1 { Ok([0; 4]) } else { Err(11) };
+        assert_eq!(p.point(&job, &between.bytes()), point);
+        let back = with_start(&job, &places[count - 1].turned());
+        let reversed = places.iter().rev().map(|place| place.turned()).collect();
+        assert_eq!(traced(p, &back, n, count), (Verdict::Loop, reversed));
     }
 }
 

@@ -1,10 +1,10 @@
 //! "Operations and what they turn down". Each opens the job first; its own refusals are
 //! tested in the order written. A refusal is its number alone and no buffer is touched.
 
-use crate::crossed::{self, column, is_crossed, Column};
+use crate::crossed::{self, column, is_crossed, sum, Column};
 use crate::grid::{Facet, Place, Vertex};
 use crate::job::{open, Job};
-use crate::limits::{Limits, MOST};
+use crate::limits::MOST;
 
 /// **Body.** The part of the job that holds the body, as offset and length.
 pub fn body(job: &[u8], index: u64) -> Result<(usize, usize), u8> {
@@ -34,23 +34,17 @@ fn columns(job: &Job, vertices: &[Vertex]) -> Result<[Column; MOST + 1], Unfit> 
     }
     let mut columns = [[0; MOST]; MOST + 1];
     for (here, v) in columns.iter_mut().zip(vertices) {
-        *here = column(&job.polynomials, v);
-    }
-    let limits = Limits::of(job.n);
-    let values = columns[..vertices.len()].iter().flat_map(|c| &c[1..job.n]);
-    if !values.into_iter().all(|&value| limits.is_readable(value)) {
-        return Err(Unfit::Unreadable);
+        *here = column(&job.polynomials, job.bias, v).ok_or(Unfit::Unreadable)?;
     }
     Ok(columns)
 }
 
-/// The largest size of a value at the vertices; none if one of them lies outside the box.
-pub fn largest_value(job: &Job, vertices: &[Vertex]) -> Option<i128> {
-    if !vertices.iter().all(|v| in_box(job, v)) {
-        return None;
-    }
-    let columns = vertices.iter().map(|v| column(&job.polynomials, v));
-    columns.flat_map(|c| c[1..].to_vec()).map(|value| value.abs()).max()
+/// The sums at the vertices, before the readable test and the bias; none if one of the vertices
+/// lies outside the box.
+pub fn sums(job: &Job, vertices: &[Vertex]) -> Option<Vec<i128>> {
+    let inside = vertices.iter().all(|v| in_box(job, v));
+    let at = |v| job.polynomials.iter().map(move |polynomial| sum(polynomial, v));
+    inside.then(|| vertices.iter().flat_map(at).collect())
 }
 
 /// 9 a vertex outside the box; 10 a vertex value not readable; else the columns of the facet.

@@ -1,4 +1,4 @@
-//! Cases A to J, their like in dimension 4 and the wrong turns on the reference.
+//! Cases A to J, their like in dimension 4 and at a bias, and the wrong turns on the reference.
 
 use reference::build::{case_a, case_c};
 use reference::listing::listing;
@@ -13,6 +13,11 @@ fn cases_a_to_j() {
 #[test]
 fn dimension_4() {
     marked::dimension_4(&Reference);
+}
+
+#[test]
+fn bias() {
+    marked::bias(&Reference);
 }
 
 #[test]

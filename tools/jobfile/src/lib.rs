@@ -14,10 +14,14 @@
 //! `dimension` is 2, 3 or 4. `box` gives the low and high end of each axis; `polynomial` is
 //! followed by a line for each term, the coefficient and an exponent for each axis, in any order:
 //! terms are sorted and like terms gathered. `start` gives the lowest vertex, the masks and the
-//! side. Numbers must fit their fields; whether the job opens is for the product to say.
+//! side. A line `bias 3` makes values from -3 to 3 count as 0; the bias is 0 to 255, and 0 without
+//! such a line. Only `polynomial` may come again. Numbers must fit their fields; whether the job
+//! opens is for the product to say.
 
+#[derive(Default)]
 struct Text {
     dimension: Option<usize>,
+    bias: Option<u8>,
     ends: Option<Vec<i64>>,
     polynomials: Vec<Vec<(Vec<u8>, i64)>>,
     start: Option<Vec<u8>>,
@@ -35,6 +39,22 @@ fn numbers(words: &[&str], low: i64, high: i64) -> Result<Vec<i64>, String> {
     words.iter().map(|word| number(word, low, high)).collect()
 }
 
+/// The one number that follows a word.
+fn following(words: &[&str], low: i64, high: i64) -> Result<i64, String> {
+    match words {
+        [_, word] => number(word, low, high),
+        _ => Err(format!("'{}' is followed by one number", words[0])),
+    }
+}
+
+/// Fills a field that a text gives once: of two lines none is passed over in silence.
+fn fill<T>(field: &mut Option<T>, name: &str, content: T) -> Result<(), String> {
+    match field.replace(content) {
+        None => Ok(()),
+        Some(_) => Err(format!("'{name}' is given twice")),
+    }
+}
+
 fn signed_16(word: &[&str]) -> Result<Vec<i64>, String> {
     numbers(word, -32_768, 32_767)
 }
@@ -45,26 +65,28 @@ impl Text {
     }
 
     fn line(&mut self, words: &[&str]) -> Result<(), String> {
-        match words[0] {
-            "dimension" => {
-                let n = number(words.get(1).ok_or("a dimension is missing")?, 2, 4)?;
-                self.dimension = Some(n as usize);
-            }
+        let name = words[0];
+        match name {
+            "dimension" => fill(&mut self.dimension, name, following(words, 2, 4)? as usize),
+            "bias" => fill(&mut self.bias, name, following(words, 0, 255)? as u8),
             "box" => {
                 let ends = signed_16(&words[1..])?;
                 if ends.len() != 2 * self.n()? {
                     return Err("a box has a low and a high end for each axis".to_string());
                 }
-                self.ends = Some(ends);
+                fill(&mut self.ends, name, ends)
             }
             "polynomial" => {
                 self.n()?;
                 self.polynomials.push(Vec::new());
+                Ok(())
             }
-            "start" => self.start = Some(self.place(&words[1..])?),
-            _ => self.term(words)?,
+            "start" => {
+                let place = self.place(&words[1..])?;
+                fill(&mut self.start, name, place)
+            }
+            _ => self.term(words),
         }
-        Ok(())
     }
 
     fn place(&self, words: &[&str]) -> Result<Vec<u8>, String> {
@@ -126,7 +148,7 @@ impl Text {
             bodies.push(body);
         }
         bodies.push(self.start.ok_or("a start is missing")?);
-        let mut job = vec![1, n as u8, n as u8 + 1, 0];
+        let mut job = vec![1, n as u8, n as u8 + 1, self.bias.unwrap_or(0)];
         let mut offset = 4 + 4 * bodies.len();
         for body in &bodies {
             for field in [offset, body.len()] {
@@ -142,7 +164,7 @@ impl Text {
 
 /// The bytes of the job that the text describes, or what is wrong and in which line.
 pub fn job(text: &str) -> Result<Vec<u8>, String> {
-    let mut parts = Text { dimension: None, ends: None, polynomials: Vec::new(), start: None };
+    let mut parts = Text::default();
     for (k, line) in text.lines().enumerate() {
         let words: Vec<&str> = line.split('#').next().unwrap_or("").split_whitespace().collect();
         if !words.is_empty() {

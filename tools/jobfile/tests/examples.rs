@@ -49,6 +49,56 @@ fn dimension_4_has_three_polynomials_and_four_exponents() {
         .starts_with("line 4: "));
 }
 
+/// Case A with one more line.
+fn case_a_with(line: &str) -> Result<Vec<u8>, String> {
+    let text = "dimension 2\nbox -1 1 -1 1\npolynomial\n-1 0 0\n2 0 2\n2 2 0\n\
+                start 0 0 masks 1 side 0\n";
+    jobfile::job(&format!("{text}{line}\n"))
+}
+
+#[test]
+fn bias_is_byte_3() {
+    let unbiased = case_a_with("").expect("a job");
+    assert_eq!(unbiased[3], 0);
+    for (line, bias) in [("bias 0", 0), ("bias 1", 1), ("bias 255 # the largest", 255)] {
+        let mut wanted = unbiased.clone();
+        wanted[3] = bias;
+        assert_eq!(case_a_with(line), Ok(wanted));
+    }
+    // It may stand anywhere.
+    let body = "box 0 1 0 1\npolynomial\n1 1 0\nstart 0 0 masks 1 side 0\n";
+    let job = jobfile::job(&format!("bias 7\ndimension 2\n{body}")).expect("a job");
+    assert_eq!(job[..4], [1, 2, 3, 7]);
+}
+
+#[test]
+fn other_biases_are_turned_down() {
+    for (line, fault) in [
+        ("bias 256", "256 does not fit its field, 0 to 255"),
+        ("bias -1", "-1 does not fit its field, 0 to 255"),
+        ("bias x", "'x' is no whole number"),
+        ("bias 0.5", "'0.5' is no whole number"),
+        ("bias", "'bias' is followed by one number"),
+        ("bias 3 4", "'bias' is followed by one number"),
+        ("bias = 3", "'bias' is followed by one number"),
+    ] {
+        assert_eq!(case_a_with(line), Err(format!("line 8: {fault}")));
+    }
+}
+
+/// Nothing that was written is passed over in silence.
+#[test]
+fn lines_given_twice_and_words_too_many_are_turned_down() {
+    for line in ["dimension 2", "box 0 1 0 1", "start 0 0 masks 2 side 0"] {
+        let name = line.split(' ').next().expect("a name");
+        assert_eq!(case_a_with(line), Err(format!("line 8: '{name}' is given twice")));
+    }
+    let fault = "line 9: 'bias' is given twice".to_string();
+    assert_eq!(case_a_with("bias 3\nbias 3"), Err(fault));
+    let fault = "line 8: 'dimension' is followed by one number".to_string();
+    assert_eq!(case_a_with("dimension 2 3"), Err(fault));
+}
+
 #[test]
 fn faults_name_their_line() {
     for n in [1, 5] {

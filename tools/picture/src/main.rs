@@ -1,18 +1,29 @@
-//! Draws a listing (standard input) of a job (the file named) as an SVG picture (standard
-//! output): the polyline through the points, in the job's box. In dimension 3 the box is seen
-//! along a fixed slanting direction. In dimension 4 axes 1 to 3 are drawn so, as the pen shows
-//! them, and the colour of the line gives the coordinate of axis 4.
+//! Draws listings (standard input, one after another) of a job (the file named) as an SVG picture
+//! (standard output): a polyline through the points of each, in the job's box. In dimension 2 a
+//! small box shows its grid of triangles too, with a dot on each lattice vertex that counts as 0.
+//! In dimension 3 the box is seen along a fixed slanting direction. In dimension 4 axes 1 to 3 are
+//! drawn so, as the pen shows them, and the colour of the line gives the coordinate of axis 4.
+//!
+//! The first listing is that of the job's start; others, from other starts, are of another colour.
 //!
 //! Nothing here is proved: the picture is for looking at. The cutter takes the listing.
 
+mod grid;
+mod listing;
+
 use std::io::Read;
 use std::process::ExitCode;
+
+use listing::{curves, Curve};
 
 /// The longest side of the picture.
 const LONGEST: f64 = 640.0;
 const MARGIN: f64 = 20.0;
 /// The height of the line that explains the colours.
 const LEGEND: f64 = 30.0;
+/// The colours of the first listing and of others.
+const FIRST: &str = "#036";
+const OTHER: &str = "#c50";
 /// The colours of the low and the high end of axis 4: red, green, blue.
 const COLOURS: [[f64; 3]; 2] = [[0.0, 51.0, 204.0], [238.0, 85.0, 0.0]];
 
@@ -22,33 +33,15 @@ type Ends = (f64, f64);
 /// The box of a job. Only the fields needed are looked at.
 fn ends(job: &[u8]) -> Option<Vec<Ends>> {
     let n = *job.get(1)? as usize;
+    if !(2..=4).contains(&n) {
+        return None;
+    }
     let first = 4 + 4 * (n + 1);
     let field = |k: usize| {
         let at = first + 2 * k;
         Some(i16::from_le_bytes([*job.get(at)?, *job.get(at + 1)?]) as f64)
     };
     (0..n).map(|axis| Some((field(2 * axis)?, field(2 * axis + 1)?))).collect()
-}
-
-/// The points of a listing in grid units, and whether its verdict is loop.
-fn points(text: &str) -> Option<(bool, Vec<Vec<f64>>)> {
-    let mut lines = text.lines();
-    let first: Vec<&str> = lines.next()?.split(' ').collect();
-    if first.len() != 3 {
-        return None;
-    }
-    let n: usize = first[0].parse().ok()?;
-    let mut all = Vec::new();
-    for line in lines {
-        let words: Vec<&str> = line.split(' ').collect();
-        if words.len() != 3 * n - 1 {
-            return None;
-        }
-        let point: Option<Vec<f64>> =
-            words[2 * n - 1..].iter().map(|w| Some(w.parse::<f64>().ok()? / 1024.0)).collect();
-        all.push(point?);
-    }
-    Some((first[1] == "loop", all))
 }
 
 /// The plane of the picture: right and up.
@@ -90,13 +83,10 @@ fn line(from: (f64, f64), to: (f64, f64), style: &str) -> String {
 }
 
 /// The curve in one colour.
-fn in_one_colour(closed: bool, drawn: &[(f64, f64)]) -> String {
+fn in_one_colour(closed: bool, drawn: &[(f64, f64)], stroke: &str) -> String {
     let shape = if closed { "polygon" } else { "polyline" };
     let path: Vec<String> = drawn.iter().map(|(x, y)| format!("{x:.2},{y:.2}")).collect();
-    format!(
-        "<{shape} points=\"{}\" fill=\"none\" stroke=\"#036\" stroke-width=\"1.5\"/>\n",
-        path.join(" ")
-    )
+    format!("<{shape} points=\"{}\" fill=\"none\" {stroke}/>\n", path.join(" "))
 }
 
 /// The curve piece by piece, each in the colour of the middle of its coordinates of axis 4.
@@ -127,68 +117,119 @@ fn legend(y: f64, (low, high): Ends) -> String {
     )
 }
 
-fn picture(job: &[u8], listing: &str) -> Option<String> {
-    let ends = ends(job)?;
-    let (closed, points) = points(listing)?;
-    if points.is_empty() || points.iter().any(|p| p.len() != ends.len()) {
-        return None;
+/// How the box lies in the picture.
+struct View {
+    left: f64,
+    top: f64,
+    scale: f64,
+    width: f64,
+    height: f64,
+}
+
+impl View {
+    /// A view that shows these corners.
+    fn of(corners: &[(f64, f64)]) -> View {
+        let least = |f: fn(&(f64, f64)) -> f64| corners.iter().map(f).fold(f64::MAX, f64::min);
+        let most = |f: fn(&(f64, f64)) -> f64| corners.iter().map(f).fold(f64::MIN, f64::max);
+        let (left, right) = (least(|c| c.0), most(|c| c.0));
+        let (bottom, top) = (least(|c| c.1), most(|c| c.1));
+        let scale = LONGEST / (right - left).max(top - bottom);
+        let [width, height] = [right - left, top - bottom].map(|side| 2.0 * MARGIN + scale * side);
+        View { left, top, scale, width, height }
+    }
+
+    fn at(&self, point: &[f64]) -> (f64, f64) {
+        let (x, y) = projected(point);
+        (MARGIN + self.scale * (x - self.left), MARGIN + self.scale * (self.top - y))
+    }
+
+    fn grid(&self, lines: &[grid::Line]) -> String {
+        let drawn = lines.iter().map(|[a, b]| line(self.at(a), self.at(b), ""));
+        format!("<g stroke=\"#ddd\">\n{}</g>\n", drawn.collect::<String>())
+    }
+
+    fn dots(&self, vertices: &[[f64; 2]]) -> String {
+        let drawn = vertices.iter().map(|v| {
+            let (x, y) = self.at(v);
+            format!("<circle cx=\"{x:.2}\" cy=\"{y:.2}\" r=\"6\"/>\n")
+        });
+        format!("<g fill=\"#777\">\n{}</g>\n", drawn.collect::<String>())
+    }
+
+    /// The curves, in colours by axis 4 if the box has one.
+    fn curves(&self, curves: &[Curve], fourth: Option<&Ends>, width: &str) -> String {
+        let mut svg = String::new();
+        for (k, Curve { closed, points }) in curves.iter().enumerate() {
+            let drawn: Vec<(f64, f64)> = points.iter().map(|p| self.at(p)).collect();
+            svg += &match fourth {
+                None => {
+                    let colour = if k == 0 { FIRST } else { OTHER };
+                    let stroke = format!("stroke=\"{colour}\" stroke-width=\"{width}\"");
+                    in_one_colour(*closed, &drawn, &stroke)
+                }
+                Some(&ends) => {
+                    let heights: Vec<f64> = points.iter().map(|p| p[3]).collect();
+                    in_colours(*closed, &drawn, &heights, ends)
+                }
+            };
+        }
+        svg
+    }
+}
+
+/// The picture, or what is wrong.
+fn picture(job: &[u8], text: &str) -> Result<String, String> {
+    let ends = ends(job).ok_or("the job has no box")?;
+    let no_listing = |line: String| format!("no listing of this job: {line}");
+    let curves = curves(text, ends.len()).map_err(no_listing)?;
+    if curves.is_empty() {
+        return Err(no_listing(String::new()));
     }
     let fourth = ends.get(3);
     let edges = edges(&ends[..ends.len().min(3)]);
     let corners: Vec<(f64, f64)> =
         edges.iter().flat_map(|(a, b)| [projected(a), projected(b)]).collect();
-    let least = |f: fn(&(f64, f64)) -> f64| corners.iter().map(f).fold(f64::MAX, f64::min);
-    let most = |f: fn(&(f64, f64)) -> f64| corners.iter().map(f).fold(f64::MIN, f64::max);
-    let (left, right) = (least(|c| c.0), most(|c| c.0));
-    let (bottom, top) = (least(|c| c.1), most(|c| c.1));
-    let scale = LONGEST / (right - left).max(top - bottom);
-    let at = |point: &[f64]| {
-        let (x, y) = projected(point);
-        (MARGIN + scale * (x - left), MARGIN + scale * (top - y))
-    };
-    let width = 2.0 * MARGIN + scale * (right - left);
-    let below = 2.0 * MARGIN + scale * (top - bottom);
-    let height = below + if fourth.is_some() { LEGEND } else { 0.0 };
+    let view = View::of(&corners);
+    let (width, height) = (view.width, view.height + fourth.map_or(0.0, |_| LEGEND));
     let mut svg = format!(
         "<svg xmlns=\"http://www.w3.org/2000/svg\" viewBox=\"0 0 {width:.1} {height:.1}\">\n\
          <!-- for looking at: no part of this picture is proved -->\n"
     );
+    let grid = grid::shown(&ends);
+    svg += &grid.map_or(String::new(), |axes| view.grid(&grid::lines(axes)));
     for (a, b) in &edges {
-        svg += &line(at(a), at(b), "stroke=\"#bbb\"");
+        svg += &line(view.at(a), view.at(b), "stroke=\"#bbb\"");
     }
-    let drawn: Vec<(f64, f64)> = points.iter().map(|p| at(p)).collect();
-    svg += &match fourth {
-        None => in_one_colour(closed, &drawn),
-        Some(&ends) => {
-            let heights: Vec<f64> = points.iter().map(|p| p[3]).collect();
-            in_colours(closed, &drawn, &heights, ends) + &legend(below, ends)
-        }
-    };
-    svg += "</svg>\n";
-    Some(svg)
+    // In front of a grid a thin line would be lost.
+    svg += &view.curves(&curves, fourth, if grid.is_some() { "3" } else { "1.5" });
+    if let Some(axes) = grid {
+        svg += &view.dots(&grid::zeros(job, axes).ok_or("the job has no polynomial")?);
+    }
+    svg += &fourth.map_or(String::new(), |&ends| legend(view.height, ends));
+    Ok(svg + "</svg>\n")
 }
 
 fn main() -> ExitCode {
     let Some(name) = std::env::args().nth(1) else {
-        eprintln!("picture JOBFILE < LISTING > PICTURE.svg   (unproved, for looking at)");
+        eprintln!("picture JOBFILE < LISTINGS > PICTURE.svg   (unproved, for looking at)");
         return ExitCode::FAILURE;
     };
     let Ok(job) = std::fs::read(&name) else {
         eprintln!("picture: {name} cannot be read");
         return ExitCode::FAILURE;
     };
-    let mut listing = String::new();
-    if std::io::stdin().read_to_string(&mut listing).is_err() {
+    let mut text = String::new();
+    if std::io::stdin().read_to_string(&mut text).is_err() {
         eprintln!("picture: the input is no text");
         return ExitCode::FAILURE;
     }
-    match picture(&job, &listing) {
-        Some(svg) => {
+    match picture(&job, &text) {
+        Ok(svg) => {
             print!("{svg}");
             ExitCode::SUCCESS
         }
-        None => {
-            eprintln!("picture: no listing of this job: {}", listing.lines().next().unwrap_or(""));
+        Err(fault) => {
+            eprintln!("picture: {fault}");
             ExitCode::FAILURE
         }
     }
@@ -197,6 +238,29 @@ fn main() -> ExitCode {
 #[cfg(test)]
 mod tests {
     use super::*;
+
+    /// Two listings of Case A's job, and a bias of 1: all vertices but the corners count as 0.
+    #[test]
+    fn listings_in_the_grid() {
+        let mut job = vec![1, 2, 3, 1, 16, 0, 8, 0, 24, 0, 24, 0, 48, 0, 6, 0];
+        job.extend([255u8, 255, 1, 0, 255, 255, 1, 0]);
+        job.extend([255, 255, 255, 255, 0, 0, 0, 0, 2, 0, 0, 0, 0, 2, 0, 0]);
+        job.extend([2, 0, 0, 0, 2, 0, 0, 0, 0, 0, 0, 0, 1, 0]);
+        let listing = "2 edge 2\n0 0 1 0 0\n0 0 3 0 0\n2 loop 2\n0 0 2 0 0\n-1 0 1 0 0\n";
+        let svg = picture(&job, listing).expect("a picture");
+        assert_eq!(svg.matches("<line ").count(), 9 + 4);
+        assert_eq!(svg.matches("<circle ").count(), 5);
+        assert!(svg.contains("<circle cx=\"340.00\" cy=\"340.00\""));
+        let path = "points=\"340.00,340.00 340.00,340.00\" fill=\"none\"";
+        for (shape, colour) in [("polyline", FIRST), ("polygon", OTHER)] {
+            assert!(svg.contains(&format!("<{shape} {path} stroke=\"{colour}\"")));
+        }
+        for (text, fault) in [("", ""), ("refused 11\n", "refused 11")] {
+            let fault = format!("no listing of this job: {fault}");
+            assert_eq!(picture(&job, text), Err(fault));
+        }
+        assert_eq!(picture(&job[..20], listing), Err("the job has no box".to_string()));
+    }
 
     /// In dimension 4 the box has three axes, a piece has the colour of its middle, a piece of no
     /// length is left out, and the legend names the ends of axis 4.

@@ -1,6 +1,6 @@
 //! Any bytes to hand to Open: jobs that open, jobs changed so that they may not, and noise.
 
-use super::kinds::{valid_of_any, Kind};
+use super::kinds::{valid_of_any, Made};
 use super::random::Random;
 use crate::build::{assemble, exponents, Parts};
 use crate::limits::{Limits, DIMENSIONS};
@@ -169,7 +169,7 @@ fn other_term_count(r: &mut Random, parts: &Parts) -> Vec<u8> {
     let mut bodies = parts.bodies();
     bodies[1 + r.index(n - 1)] =
         all.take(r.pick(&counts)).flat_map(|e| [[1, 0, 0, 0], e].concat()).collect();
-    assemble(n, &bodies)
+    assemble(n, parts.bias, &bodies)
 }
 
 /// The job with one of its bodies some bytes shorter or longer.
@@ -178,7 +178,7 @@ fn other_body_length(r: &mut Random, parts: &Parts) -> Vec<u8> {
     let body = &mut bodies[r.index(parts.n + 1)];
     let length = body.len() as i64 + r.pick(&[-1, 1, -4, 4, -8, 8, 2]);
     body.resize(length.max(0) as usize, 0);
-    assemble(parts.n, &bodies)
+    assemble(parts.n, parts.bias, &bodies)
 }
 
 /// The bytes of a job after a change, with these damages.
@@ -218,7 +218,8 @@ pub struct AnyJob {
     pub bytes: Vec<u8>,
     /// The dimension of the job that they were made of.
     pub made_in: usize,
-    pub kind: Kind,
+    /// The names of that job.
+    pub made: Made,
     pub change: Change,
     /// For a damaged job, in the order in which they were done.
     pub damages: Vec<Damage>,
@@ -235,7 +236,7 @@ impl AnyJob {
 /// Any bytes to hand to Open.
 pub fn any_job(r: &mut Random) -> AnyJob {
     let search = r.once_in(4);
-    let (kind, parts) = valid_of_any(r, search);
+    let (made, parts) = valid_of_any(r, search);
     let change = r.named();
     let count = match change {
         Change::DamagedOnce => 1,
@@ -244,29 +245,30 @@ pub fn any_job(r: &mut Random) -> AnyJob {
     };
     let damages: Vec<Damage> = (0..count).map(|_| r.named()).collect();
     let bytes = changed(r, &parts, change, &damages);
-    AnyJob { bytes, made_in: parts.n, kind, change, damages }
+    AnyJob { bytes, made_in: parts.n, made, change, damages }
 }
 
 /// Counts of how jobs were made.
 #[derive(Default)]
 pub struct JobTally {
-    kinds: Tally<Kind>,
+    made: Tally<Made>,
     changes: Tally<Change>,
     damages: Tally<Damage>,
 }
 
 impl JobTally {
     pub fn count(&mut self, job: &AnyJob) {
-        self.kinds.count(job.made_in, job.kind);
+        self.made.count(job.made_in, job.made);
         self.changes.count(job.made_in, job.change);
         for &damage in &job.damages {
             self.damages.count(job.made_in, damage);
         }
     }
 
-    /// Fails unless each kind, each change and each damage was met in each dimension.
+    /// Fails unless each kind with each bias, each change and each damage was met in each
+    /// dimension.
     pub fn assert_all(&self) {
-        self.kinds.assert_all();
+        self.made.assert_all();
         self.changes.assert_all();
         self.damages.assert_all();
     }

@@ -1,13 +1,15 @@
 //! Jobs that open, by kind.
 
+use super::biases::{scaled, Bias};
 use super::random::Random;
-use crate::build::{exponents, gathered, power_of, product, term, Parts};
-use crate::crossed::{value, Term};
+use crate::build::{exponents, gathered, power_of, product, term, within_limits, Parts};
+use crate::crossed::{sum, value, Term};
 use crate::grid::{above, chains, orders, vertex, Facet, Place, Vertex};
 use crate::job::Job;
 use crate::limits::{Limits, LARGEST_COEFFICIENT, LARGEST_COORDINATE, MOST};
 use crate::named;
 use crate::operations::facet_is_crossed;
+use crate::tally::{Named, Tally};
 
 named! {
     /// The kinds of jobs that open.
@@ -26,6 +28,32 @@ named! {
         AllTerms: 1,
         /// An ellipse, or an ellipsoid cut by other surfaces: mostly closed.
         Closed: 2,
+        /// Two sheets that almost touch at the origin, cut by planes: a bias may join them.
+        AlmostTouching: 2,
+    }
+}
+
+/// By which names a job that opens was made.
+#[derive(Clone, Copy, PartialEq, Eq, PartialOrd, Ord)]
+pub struct Made {
+    pub kind: Kind,
+    pub bias: Bias,
+}
+
+/// Short, for the lists of what was met.
+impl std::fmt::Debug for Made {
+    fn fmt(&self, f: &mut std::fmt::Formatter) -> std::fmt::Result {
+        write!(f, "{:?} {:?}", self.kind, self.bias)
+    }
+}
+
+impl Tally<Made> {
+    /// Fails unless each kind was met with each bias in each dimension, and as many in the largest
+    /// dimension as in each other.
+    pub fn assert_all(&self) {
+        self.assert_most_in_largest();
+        let with_each = |kind| Bias::all().into_iter().map(move |bias| Made { kind, bias });
+        self.assert_met(&Kind::all().into_iter().flat_map(with_each).collect::<Vec<_>>());
     }
 }
 
@@ -180,19 +208,23 @@ fn polynomial(r: &mut Random, n: usize, axis: usize, shape: Shape) -> Vec<Term> 
     nonempty(r, n, gathered(&terms))
 }
 
-/// A product of up to `most` linear forms with small coefficients, the first mostly with the
-/// axis: 0 at many grid points.
+/// A linear form with small coefficients, mostly with the axis if there is one; it may be 0.
+fn linear_form(r: &mut Random, n: usize, axis: Option<usize>) -> Vec<Term> {
+    let mut form = vec![term(r.between(-2, 2), &[])];
+    for other in 1..=n {
+        form.push(Term { coefficient: r.between(-1, 1), exponents: power_of(other, 1) });
+    }
+    if let Some(axis) = axis {
+        form.push(Term { coefficient: r.pick(&[2, -2, 1]), exponents: power_of(axis, 1) });
+    }
+    gathered(&form)
+}
+
+/// A product of up to `most` linear forms, the first mostly with the axis: 0 at many grid points.
 fn linear_product(r: &mut Random, n: usize, axis: usize, most: u64) -> Vec<Term> {
     let mut all = vec![term(r.pick(&[1, -1, 1, 2]), &[])];
     for k in 0..1 + r.below(most) {
-        let mut form = vec![term(r.between(-2, 2), &[])];
-        for other in 1..=n {
-            form.push(Term { coefficient: r.between(-1, 1), exponents: power_of(other, 1) });
-        }
-        if k == 0 {
-            form.push(Term { coefficient: r.pick(&[2, -2, 1]), exponents: power_of(axis, 1) });
-        }
-        let form = gathered(&form);
+        let form = linear_form(r, n, (k == 0).then_some(axis));
         if !form.is_empty() {
             all = product(&all, &form);
         }
@@ -200,19 +232,20 @@ fn linear_product(r: &mut Random, n: usize, axis: usize, most: u64) -> Vec<Term>
     nonempty(r, n, all)
 }
 
-/// Moves the polynomial's zero set close to a vertex, by its constant term, where the
-/// coefficients stay within their limit.
-fn through(r: &mut Random, terms: &[Term], at: &Vertex) -> Vec<Term> {
-    let wanted = r.pick(&[0, 0, 1, -1, 2, -3]);
-    let constant = wanted - value(terms, at);
+/// Moves the polynomial's zero set, or the border of what the bias makes 0, close to a vertex, by
+/// its constant term, where the coefficients stay within their limit.
+fn through(r: &mut Random, terms: &[Term], at: &Vertex, bias: u8) -> Vec<Term> {
+    let bias = bias as i128;
+    let wanted = r.pick(&[0, 0, 1, -1, 2, -3, bias, -bias, bias + 1, -bias - 1]);
+    let constant = wanted - sum(terms, at);
     if constant.abs() > 1 << 30 {
         return terms.to_vec();
     }
     let moved = gathered(&[terms, &[term(constant as i64, &[])]].concat());
-    if moved.is_empty() || moved.iter().any(|t| t.coefficient.abs() > LARGEST_COEFFICIENT) {
-        terms.to_vec()
-    } else {
+    if within_limits(&moved) {
         moved
+    } else {
+        terms.to_vec()
     }
 }
 
@@ -301,6 +334,33 @@ fn closed(r: &mut Random, n: usize) -> (Ends, Vec<Vec<Term>>) {
     (vec![(-reach, reach); n], polynomials)
 }
 
+/// A ball around a vertex of axis 1 whose sum at the origin is `outside`.
+fn ball(n: usize, center: i64, outside: i64) -> Vec<Term> {
+    let mut terms = vec![term(outside, &[]), term(-2 * center, &[1])];
+    terms.extend((1..=n).map(|axis| Term { coefficient: 1, exponents: power_of(axis, 2) }));
+    gathered(&terms)
+}
+
+/// A product of two linear forms or of two balls on both sides of the origin, off by a constant;
+/// the other polynomials are linear.
+fn almost_touching(r: &mut Random, n: usize) -> (Ends, Vec<Vec<Term>>) {
+    let (reach, _) = scale(n).small;
+    let ends = (0..n).map(|_| (-r.between(1, reach), r.between(1, reach))).collect();
+    let axes = own_axes(r, n);
+    let balls = r.once_in(2);
+    let sheets = if balls {
+        let one = ball(n, -r.between(1, reach / 2), r.between(-1, 2));
+        product(&one, &ball(n, r.between(1, reach / 2), r.between(-1, 2)))
+    } else {
+        let one = linear_form(r, n, Some(axes[0]));
+        product(&one, &linear_form(r, n, Some(axes[0] % n + 1)))
+    };
+    let off = gathered(&[&sheets[..], &[term(r.between(-3, 3), &[])]].concat());
+    let mut polynomials = vec![nonempty(r, n, off)];
+    polynomials.extend(axes[1..].iter().map(|&axis| linear_product(r, n, axis, 1)));
+    (ends, polynomials)
+}
+
 /// Box and polynomials of a kind.
 fn surfaces(r: &mut Random, n: usize, kind: Kind) -> (Ends, Vec<Vec<Term>>) {
     let s = scale(n);
@@ -331,6 +391,7 @@ fn surfaces(r: &mut Random, n: usize, kind: Kind) -> (Ends, Vec<Vec<Term>>) {
         }
         Kind::AllTerms => all_terms(r, n),
         Kind::Closed => closed(r, n),
+        Kind::AlmostTouching => almost_touching(r, n),
     }
 }
 
@@ -353,9 +414,21 @@ pub fn facet_near(r: &mut Random, n: usize, near: &Vertex) -> Facet {
     Facet { n, lowest, masks: r.pick(chains(n)) }
 }
 
-/// Whether a polynomial of these values has one sign: then no facet of the vertices is crossed.
-fn has_one_sign(values: impl Iterator<Item = i128> + Clone) -> bool {
-    values.clone().all(|value| value > 0) || values.clone().all(|value| value < 0)
+/// A vertex of the box at most 1 away from another.
+fn vertex_near(r: &mut Random, ends: &Ends, near: &Vertex) -> Vertex {
+    let mut v = *near;
+    for (x, &(low, high)) in v.iter_mut().zip(ends) {
+        *x = (*x + r.between(-1, 1)).clamp(low, high);
+    }
+    v
+}
+
+/// Whether these values of a polynomial are all above 0, all 0 or all below: then no facet of the
+/// vertices is crossed.
+fn has_one_sign(values: impl Iterator<Item = i128>) -> bool {
+    let mut signs = values.map(|value| value.signum());
+    let first = signs.next();
+    signs.all(|sign| Some(sign) == first)
 }
 
 /// A crossed facet of that lowest vertex, if there is one.
@@ -364,11 +437,12 @@ fn crossed_at(r: &mut Random, job: &Job, lowest: &Vertex) -> Option<Facet> {
     // By polynomial, the values at the vertices of the cube by their masks.
     let mut cube: Vec<Vec<i128>> = Vec::new();
     for polynomial in &job.polynomials {
-        let values = (0..1 << n).map(|mask| value(polynomial, &above(lowest, mask))).collect();
-        cube.push(values);
-        if has_one_sign(cube[cube.len() - 1].iter().copied()) {
+        let at = |mask| value(job.bias, sum(polynomial, &above(lowest, mask)));
+        let values: Vec<i128> = (0..1 << n).map(at).collect();
+        if has_one_sign(values.iter().copied()) {
             return None;
         }
+        cube.push(values);
     }
     let may_be_crossed = |facet: &Facet| {
         let at = |values: &Vec<i128>, i: usize| values[facet.mask(i) as usize];
@@ -402,59 +476,90 @@ fn choose_start(r: &mut Random, parts: &mut Parts, near: &Vertex) {
     parts.start.facet = into_box(parts.start.facet, &parts.ends);
 }
 
-/// A job of a kind; its start is searched for or left as it comes.
-pub fn valid_of(r: &mut Random, n: usize, kind: Kind, search: bool) -> Parts {
-    let (ends, mut polynomials) = surfaces(r, n, kind);
-    let near = match kind {
+/// A vertex that is to be close to the curve.
+fn near_curve(r: &mut Random, kind: Kind, ends: &Ends) -> Vertex {
+    match kind {
         Kind::IntoReadableLimit => vertex(&[r.between(ends[0].0, 15).max(r.between(0, 15))]),
-        _ if r.once_in(4) => vertex_in(r, &ends),
-        _ => inner_vertex(r, &ends),
-    };
+        Kind::AlmostTouching => vertex(&[]),
+        _ if r.once_in(4) => vertex_in(r, ends),
+        _ => inner_vertex(r, ends),
+    }
+}
+
+/// Chooses the bias, and moves and scales the polynomials of a kind so that sums around the bias
+/// stand close to a vertex.
+fn choose_bias(r: &mut Random, kind: Kind, parts: &mut Parts, near: &Vertex) -> Bias {
+    let bias: Bias = r.named();
+    let number = bias.number(r);
+    let has_large_values = matches!(
+        kind,
+        Kind::AroundReadableLimit | Kind::IntoReadableLimit | Kind::LargeBox | Kind::AllTerms
+    );
     // These two are where they are meant to be.
     let keeps = matches!(kind, Kind::IntoReadableLimit | Kind::Closed);
-    if !keeps && !r.once_in(4) {
-        for p in &mut polynomials {
-            *p = through(r, p, &near);
+    let moves = !keeps && !r.once_in(4);
+    for p in &mut parts.polynomials {
+        if !has_large_values {
+            *p = scaled(r, p, number.unwrap_or(0));
+        }
+        if moves {
+            *p = through(r, p, near, number.unwrap_or(0));
         }
     }
+    if let Some(number) = number {
+        parts.bias = number;
+        return bias;
+    }
+    let mut at = vec![*near];
+    at.extend([0; 3].map(|_| vertex_near(r, &parts.ends, near)));
+    let (bias, number) = Bias::at_a_sum(r, &parts.polynomials, &at);
+    parts.bias = number;
+    bias
+}
+
+/// A job of a kind; its start is searched for or left as it comes.
+pub fn valid_of(r: &mut Random, n: usize, kind: Kind, search: bool) -> (Made, Parts) {
+    let (ends, polynomials) = surfaces(r, n, kind);
+    let near = near_curve(r, kind, &ends);
     let facet = Facet { n, lowest: near, masks: r.pick(chains(n)) };
     let start = Place { facet, side: r.below(2) as u8 };
-    let mut parts = Parts { n, ends, polynomials, start };
+    let mut parts = Parts { n, bias: 0, ends, polynomials, start };
+    let bias = choose_bias(r, kind, &mut parts, &near);
     if search && !r.once_in(12) {
         choose_start(r, &mut parts, &near);
     }
-    parts
+    (Made { kind, bias }, parts)
 }
 
 /// A job of any kind and any dimension.
-pub fn valid_of_any(r: &mut Random, search: bool) -> (Kind, Parts) {
+pub fn valid_of_any(r: &mut Random, search: bool) -> (Made, Parts) {
     let (n, kind) = (any_dimension(r), r.named());
-    (kind, valid_of(r, n, kind, search))
+    valid_of(r, n, kind, search)
 }
 
 /// A job of dimension n, mostly with a crossed start.
-pub fn valid_in(r: &mut Random, n: usize) -> (Kind, Parts) {
+pub fn valid_in(r: &mut Random, n: usize) -> (Made, Parts) {
     loop {
         let kind = r.named();
-        let parts = valid_of(r, n, kind, true);
+        let (made, parts) = valid_of(r, n, kind, true);
         if facet_is_crossed(&parts.opened(), &parts.start.facet) || r.once_in(3) {
-            return (kind, parts);
+            return (made, parts);
         }
     }
 }
 
 /// A job of any dimension, mostly with a crossed start.
-pub fn valid(r: &mut Random) -> (Kind, Parts) {
+pub fn valid(r: &mut Random) -> (Made, Parts) {
     let n = any_dimension(r);
     valid_in(r, n)
 }
 
 /// A job of dimension n in a box small enough to be looked at whole.
-pub fn valid_small(r: &mut Random, n: usize) -> (Kind, Parts) {
+pub fn valid_small(r: &mut Random, n: usize) -> (Made, Parts) {
     loop {
         let kind = r.named();
         if !matches!(kind, Kind::LargeBox | Kind::AllTerms) {
-            return (kind, valid_of(r, n, kind, true));
+            return valid_of(r, n, kind, true);
         }
     }
 }
@@ -465,34 +570,43 @@ mod tests {
     use crate::job::open;
     use crate::limits::DIMENSIONS;
     use crate::operations::{trace_places, Verdict};
-    use crate::tally::{Named, Tally};
+    use std::collections::BTreeMap;
+
+    /// Every verdict of Trace.
+    const VERDICTS: [Verdict; 4] = [Verdict::Loop, Verdict::Edge, Verdict::Limit, Verdict::Full];
 
     /// What Trace answers, without the places.
     fn traced(parts: &Parts) -> Result<Verdict, u8> {
         trace_places(&parts.opened(), 300).map(|(verdict, _)| verdict)
     }
 
-    /// Valid jobs open, most of their starts are crossed, and every answer comes up.
+    /// Valid jobs open, most of their starts are crossed, and every answer comes up, the verdicts
+    /// with each bias.
     #[test]
     fn valid_jobs_are_worth_tracing() {
-        let (mut kinds, mut answers) = (Tally::default(), Tally::default());
+        let (mut all_made, mut answers) = (Tally::default(), Tally::default());
+        let mut by_bias: BTreeMap<Bias, Tally<Result<Verdict, u8>>> = BTreeMap::new();
         for n in DIMENSIONS {
             let mut r = Random::new(1);
             let mut refused = 0;
             let count = 6_000;
             for _ in 0..count {
-                let (kind, parts) = valid_in(&mut r, n);
+                let (made, parts) = valid_in(&mut r, n);
                 open(&parts.bytes()).expect("a valid job");
                 let answer = traced(&parts);
-                kinds.count(n, kind);
+                all_made.count(n, made);
                 answers.count(n, answer);
+                by_bias.entry(made.bias).or_default().count(n, answer);
                 refused += answer.is_err() as u32;
             }
             assert!(refused < count / 2, "in dimension {n}");
         }
-        kinds.assert_all();
-        let verdicts = [Verdict::Loop, Verdict::Edge, Verdict::Limit, Verdict::Full];
-        answers.assert_met(&[&verdicts.map(Ok)[..], &[Err(9), Err(10), Err(11)]].concat());
+        all_made.assert_all();
+        answers.assert_met(&[&VERDICTS.map(Ok)[..], &[Err(9), Err(10), Err(11)]].concat());
+        for (bias, met) in by_bias {
+            println!("{bias:?}");
+            met.assert_includes(&VERDICTS.map(Ok));
+        }
     }
 
     /// Jobs of each kind open in each dimension and reach what the kind is for.
@@ -503,7 +617,7 @@ mod tests {
             for n in DIMENSIONS {
                 let mut r = Random::new(2);
                 for _ in 0..300 {
-                    let parts = valid_of(&mut r, n, kind, true);
+                    let (_, parts) = valid_of(&mut r, n, kind, true);
                     open(&parts.bytes()).expect("a valid job");
                     met.count(n, traced(&parts));
                 }
@@ -517,6 +631,7 @@ mod tests {
                 Kind::LargeBox => &[Ok(Verdict::Full)],
                 Kind::AllTerms => &[Ok(Verdict::Edge)],
                 Kind::Closed => &[Ok(Verdict::Loop)],
+                Kind::AlmostTouching => &[Ok(Verdict::Loop), Ok(Verdict::Edge)],
             });
         }
     }
