@@ -1,5 +1,6 @@
 -- The third demand at marked cases of each dimension, so that nothing it asks for is out of reach: the curve of case A closes
--- and has six facets, with n = 4 it closes and has 14, and the curve of case C does not close, with n = 3 and with n = 4.
+-- and has six facets, with n = 4 it closes and has 14, and the curve of case C does not close, with n = 3 and with n = 4. A curve of
+-- six facets is one of 14 under a bias.
 use Prim.Native.Nat.{ℕ, _<_}
 use native.Mathlib.Omega.{arith}
 use mathlib.Core.Path.{_≡_, refl, ap, subst, _∙_}
@@ -17,9 +18,11 @@ use Rattle.curves.proofs.Demand.{loop-closed, stopped-open}
 use Rattle.paper.specs.Job.{dimension}
 use Rattle.paper.specs.Values.{fieldOf}
 use Rattle.paper.specs.Operations.{answered, stepIn, startOf, traceRefusal, onSameFacet, traced}
+use Rattle.paper.specs.Bias.{withBias}
 use Rattle.paper.specs.Demand3.{CurveHas, CurveCloses, Demand3}
 use Rattle.paper.proofs.Cases.{caseA, caseC, placesA, markedCases, marked-cases-hold, row}
 use Rattle.paper.proofs.Cases4.{caseA4, caseC4, placesLoop, markedCases4, marked-cases-4-hold}
+use Rattle.paper.proofs.CasesBias.{waist, placesLobe, placesWaist, markedCasesBias, marked-cases-bias-hold}
 use Rattle.paper.proofs.Refusals.{Answered, answered-inv}
 use Rattle.paper.proofs.Opens.{opens-range}
 use Rattle.paper.proofs.StartTraceable.{trace-opens, start-traceable}
@@ -101,3 +104,22 @@ demand3-caseC4 = demand3 caseC4 (inverted caseC4 16 _ (row 1 markedCases4 marked
 pub caseC4-open : ¬ CurveCloses caseC4
 unfolding markedCases4
 caseC4-open = stopped-opens-curve caseC4 16 _ (row 1 markedCases4 marked-cases-4-hold) edge refl
+
+-- ---- the narrow waist: without a bias the curve of its start has six facets, with bias 1 it has 14, and demand 3 holds of these
+
+pub lobe-counted : CurveHas (waist 2) 6
+unfolding markedCasesBias placesLobe
+lobe-counted = loop-counts-curve (waist 2) 6 _ (row 25 markedCasesBias marked-cases-bias-hold) refl
+
+pub waist-counted : CurveHas (withBias (waist 2) 1) 14
+unfolding markedCasesBias placesWaist
+waist-counted = loop-counts-curve (withBias (waist 2) 1) 14 _ (row 26 markedCasesBias marked-cases-bias-hold) refl
+
+pub waist-closes : CurveCloses (withBias (waist 2) 1)
+unfolding markedCasesBias
+waist-closes = loop-closes-curve (withBias (waist 2) 1) 14 _ (row 26 markedCasesBias marked-cases-bias-hold) refl
+
+pub demand3-waist : Demand3 (withBias (waist 2) 1) 14 14
+unfolding markedCasesBias
+demand3-waist =
+    demand3 (withBias (waist 2) 1) (inverted (withBias (waist 2) 1) 14 _ (row 26 markedCasesBias marked-cases-bias-hold) .none) 14 14
