@@ -26,9 +26,13 @@ use Rattle.paper.specs.Operations.{answered, crossedIn, facetOf, judgeRe
 use Rattle.paper.proofs.BiasedValues.{value-above, value-not-above}
 use Rattle.paper.proofs.Refusals.{answered-inv, unless-answered}
 
+-- one number is above a level and the other is not
+abbrev pub OneAboveLevel : ℕ → ℤ → ℤ → Type 0
+OneAboveLevel b x y = ((pos b <ℤ x) × (y ≤ℤ pos b)) ⊎ ((pos b <ℤ y) × (x ≤ℤ pos b))
+
 -- one value is above 0 and the other is 0 or below
 abbrev pub OneAboveZero : ℤ → ℤ → Type 0
-OneAboveZero x y = ((0ℤ <ℤ x) × (y ≤ℤ 0ℤ)) ⊎ ((0ℤ <ℤ y) × (x ≤ℤ 0ℤ))
+OneAboveZero x y = OneAboveLevel 0 x y
 
 -- ---- signs
 
@@ -132,18 +136,15 @@ judged-plain s p e h =
       λ w. unless-answered (crossedIn s (facetOf s p)) h ∙ ap answered (same ∙ crossed-vertices s v (byte p 4) e .1 w),
     )
 
--- one sum is above the bias and the other is not
-abbrev pub OneAboveBias : ℕ → ℤ → ℤ → Type 0
-OneAboveBias b x y = ((pos b <ℤ x) × (y ≤ℤ pos b)) ⊎ ((pos b <ℤ y) × (x ≤ℤ pos b))
-
-one-above-bias : (b : ℕ) (x y : ℤ) → OneAboveZero (valueOf b x) (valueOf b y) ↔ OneAboveBias b x y
+-- one value is above 0 and the other is not exactly if that holds of their sums and the bias
+one-above-bias : (b : ℕ) (x y : ℤ) → OneAboveZero (valueOf b x) (valueOf b y) ↔ OneAboveLevel b x y
 one-above-bias b x y = (there, back)
   where
-    there : OneAboveZero (valueOf b x) (valueOf b y) → OneAboveBias b x y
+    there : OneAboveZero (valueOf b x) (valueOf b y) → OneAboveLevel b x y
     there (inl w) = inl (value-above b x .0 (w .0), value-not-above b y .0 (w .1))
     there (inr w) = inr (value-above b y .0 (w .0), value-not-above b x .0 (w .1))
 
-    back : OneAboveBias b x y → OneAboveZero (valueOf b x) (valueOf b y)
+    back : OneAboveLevel b x y → OneAboveZero (valueOf b x) (valueOf b y)
     back (inl w) = inl (value-above b x .1 (w .0), value-not-above b y .1 (w .1))
     back (inr w) = inr (value-above b y .1 (w .0), value-not-above b x .1 (w .1))
 
@@ -151,7 +152,7 @@ one-above-bias b x y = (there, back)
 pub judged-over-bias :
     (s p : List ℕ) → dimension s ≡ 2 → judgeRefusal s p ≡ 0
     → (judged s p ≡ answered true)
-    ↔ OneAboveBias (bias s)
+    ↔ OneAboveLevel (bias s)
     (rawSum (body s 1) (signedWord p 0 ∷ signedWord p 2 ∷ []))
     (rawSum (body s 1) (plus (signedWord p 0 ∷ signedWord p 2 ∷ []) (byte p 4)))
 judged-over-bias s p e h =

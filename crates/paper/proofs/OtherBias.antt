@@ -71,15 +71,15 @@ module _ (s : List ℕ) (b : ℕ) where
 
 -- ---- Open's refusal
 
--- Open's tests 6 to 8, of box, terms and start
-abbrev bodiesRefusal : ℕ → List ℕ → ℕ
-bodiesRefusal n s =
+-- Open's tests behind that of the contents, 6 to 8: box, terms and start
+abbrev behindContents : ℕ → List ℕ → ℕ
+behindContents n s =
     refuseIf (not (boxOk n (body s 0))) 6
     (refuseIf (not (allFrom (λ k. polynomialOk n (body s k)) 1 (n - 1))) 7
     (refuseIf (not (placeOk n (decodePlace n (body s n)))) 8 0))
 
 module _ (s : List ℕ) (b : ℕ) where
-  bodies-same : (n : ℕ) → contentsOk n s ≡ true → bodiesRefusal n (withBias s b) ≡ bodiesRefusal n s
+  bodies-same : (n : ℕ) → contentsOk n s ≡ true → behindContents n (withBias s b) ≡ behindContents n s
   bodies-same n h =
       rw (
         other-body s b n 0 h (omega arith),
@@ -102,8 +102,8 @@ module _ (s : List ℕ) (b : ℕ) where
       (ap (refuseIf _ 1) (ap (refuseIf _ 2) (ap (refuseIf _ 3) (ap (refuseIf _ 4) (go (contentsOk (dimension s) s) refl)))))
     where
       go : (t : Bool) → contentsOk (dimension s) s ≡ t
-          → refuseIf (not (contentsOk (dimension s) s)) 5 (bodiesRefusal (dimension s) (withBias s b))
-          ≡ refuseIf (not (contentsOk (dimension s) s)) 5 (bodiesRefusal (dimension s) s)
+          → refuseIf (not (contentsOk (dimension s) s)) 5 (behindContents (dimension s) (withBias s b))
+          ≡ refuseIf (not (contentsOk (dimension s) s)) 5 (behindContents (dimension s) s)
       go true e = ap (refuseIf _ 5) (bodies-same (dimension s) e)
       go false e = refuse-here 5 _ (ap not e) ∙ sym (refuse-here 5 _ (ap not e))
 
