@@ -86,6 +86,11 @@ typedef struct {
     double x, y, z; /* on axes 1 to 3, in millimetres: the steps divided by 1024, exactly */
 } PenAnswer;
 
+typedef struct {
+    uint64_t refusal;
+    int64_t sum;
+} SumAnswer;
+
 /* Open: the dimension and each polynomial's count of terms. Refusals 1 to 8. */
 OpenAnswer gethwapiko_open(const uint8_t *job, size_t job_length);
 
@@ -110,6 +115,12 @@ TraceAnswer gethwapiko_trace(const uint8_t *job, size_t job_length, uint8_t *buf
 /* Pen: move k of a list of m places, 3n bytes each: k = 0 lifts to place 0, k under m draws to place k, and k = m with m above 0 closes
  * if `closed` is not 0. Refusals 13, 12, then 13, 9, 10, 11 for place k; a close looks at no place. */
 PenAnswer gethwapiko_pen(const uint8_t *job, size_t job_length, const uint8_t *places, size_t places_length, uint8_t closed, uint64_t k);
+
+/* Running sum: the polynomial with this number, 0 to n - 2, at the vertex x y z w, summed from its last term to its first, after `terms`
+ * terms: the exact sum of its last `terms` terms, readable or not, without the bias. All terms give the polynomial's sum, 0 terms give 0.
+ * Coordinates above n are not read. Refusals 12 (no such polynomial, or it has fewer terms), then 9. */
+SumAnswer gethwapiko_running_sum(const uint8_t *job, size_t job_length, uint64_t polynomial, int64_t x, int64_t y, int64_t z, int64_t w,
+                                 uint64_t terms);
 
 #ifdef __cplusplus
 }

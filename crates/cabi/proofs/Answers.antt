@@ -4,6 +4,10 @@ use mathlib.Core.Path.{_≡_, sym, ap, _∙_}
 use mathlib.Core.List.{List, [], _∷_}
 use Prim.Native.Nat.{ℕ}
 use lib.IntN.{ℤ}
+use mir.Syntax.{w64}
+use mir.Val.{SFits}
+use mir.ValLaws.{toZ-ofZ}
+use Rattle.exact.proofs.Bits.{back}
 use Rattle.curves.specs.Grid.{Place}
 use Rattle.curves.specs.Walk.{Next, go}
 use Rattle.curves.specs.Walk as Walk
@@ -14,10 +18,12 @@ use Rattle.paper.specs.declared.Penned as Penned
 use Rattle.paper.specs.Operations.{Answer, answered}
 use Rattle.paper.specs.Answers.{paddedPoint, paddedStep, verdictAs}
 use Rattle.paper.specs.Pen.{Move, moveAs, pennedAs}
+use Rattle.paper.specs.RunningSum.{runningSummed}
 use Rattle.cabi.specs.declared.PointAnswer.{PointAnswer}
 use Rattle.cabi.specs.declared.StepAnswer.{StepAnswer}
 use Rattle.cabi.specs.declared.TraceAnswer.{TraceAnswer}
-use Rattle.cabi.specs.Numbers.{pointNumbers, stepNumbers, verdictNumber, traceNumbers, penNumbers}
+use Rattle.cabi.specs.declared.SumAnswer.{SumAnswer}
+use Rattle.cabi.specs.Numbers.{pointNumbers, stepNumbers, verdictNumber, traceNumbers, penNumbers, sumNumbers}
 use Rattle.cabi.proofs.Padding.{point-unpadded, step-unpadded}
 
 -- ---- Point
@@ -56,3 +62,18 @@ pub pen-moved : (a : Answer Move) (r : Penned.Penned) (m l : PenMove) → r ≡ 
     → penNumbers (answered (moveAs l)) ≡ penNumbers a
 unfolding pennedAs
 pen-moved a r m l e f h = ap (λ (t : PenMove). penNumbers (answered (moveAs t))) (sym f) ∙ ap (λ (t : Penned.Penned). penNumbers (pennedAs t)) (sym e) ∙ ap penNumbers h
+
+-- ---- the running sum
+
+module _ (s : List ℕ) (p k : ℕ) (x y z w : ℤ) (e : SFits w64 x) (f : SFits w64 y) (g : SFits w64 z) (i : SFits w64 w) where
+  abbrev given : List ℤ
+  given = x ∷ y ∷ z ∷ w ∷ []
+
+  -- the vertex is handed on as the bits of its coordinates
+  pub sum-as : {b : Answer ℤ} → b ≡ runningSummed s p (back x ∷ back y ∷ back z ∷ back w ∷ []) k → sumNumbers b ≡ sumNumbers (runningSummed s p given k)
+  sum-as h = ap sumNumbers h ∙ rw (toZ-ofZ w64 x e, toZ-ofZ w64 y f, toZ-ofZ w64 z g, toZ-ofZ w64 w i)
+
+  pub sum-at : {r : ℤ} → SFits w64 r → answered r ≡ runningSummed s p (back x ∷ back y ∷ back z ∷ back w ∷ []) k
+      → _≡_ {A = SumAnswer} (record { refusal = 0; sum = back r }) (sumNumbers (runningSummed s p given k))
+  unfolding sumNumbers
+  sum-at {r} j h = rw (toZ-ofZ w64 r j) (sum-as h)

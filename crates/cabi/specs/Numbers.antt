@@ -21,6 +21,7 @@ use Rattle.cabi.specs.declared.PointAnswer.{PointAnswer}
 use Rattle.cabi.specs.declared.StepAnswer.{StepAnswer}
 use Rattle.cabi.specs.declared.TraceAnswer.{TraceAnswer}
 use Rattle.cabi.specs.declared.PenAnswer.{PenAnswer}
+use Rattle.cabi.specs.declared.SumAnswer.{SumAnswer}
 
 -- n and each polynomial's count of terms
 unfoldable pub openNumbers : Answer (List ℕ) → OpenAnswer
@@ -116,3 +117,8 @@ penNumbers (refused k) = withoutPoint k 0
 penNumbers (answered (lift v)) = withPoint 0 v
 penNumbers (answered (draw v)) = withPoint 1 v
 penNumbers (answered close) = withoutPoint 0 2
+
+-- the running sum
+unfoldable pub sumNumbers : Answer ℤ → SumAnswer
+sumNumbers (refused k) = record { refusal = k; sum = 0ℤ }
+sumNumbers (answered z) = record { refusal = 0; sum = z }

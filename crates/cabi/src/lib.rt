@@ -1,4 +1,4 @@
-// The C interface: each function hands on what an operation of document 01 answers, as a struct of numbers. A slice is a pointer and a
+// The C interface: each function hands on what an operation of document 01 or of a request answers, as a struct of numbers. A slice is a pointer and a
 // length. Refusal 0 is none; beside a refusal, and where an answer does not use a field, the field is 0.
 
 use bits::read;
@@ -8,16 +8,20 @@ use paper::PenMove;
 use paper::Penned;
 use paper::Pointed;
 use paper::Stepped;
+use paper::Summed;
 use paper::Traced;
 use paper::Verdict;
+use places::Vertex;
 ghost use mathlib.Core.Path.{_≡_};
+ghost use mathlib.Core.List.{[], _∷_};
 ghost use Prim.Native.Nat.{_+_, _≤_};
 ghost use lib.ListN.{length, take, drop};
 ghost use Rattle.paper.specs.Operations.{opened, bodyPart, judged, pointed, stepped, traced, spaceOf, verdictAndCount, bufferAfter};
 ghost use Rattle.paper.specs.Answers.{verdictAs};
 ghost use Rattle.paper.specs.Pen.{penned};
+ghost use Rattle.paper.specs.RunningSum.{runningSummed};
 ghost use Rattle.cabi.specs.Numbers.{openNumbers, bodyEntry, bodyNumbers, judgeNumbers, pointNumbers, withoutPlace, stepNumbers};
-ghost use Rattle.cabi.specs.Numbers.{verdictNumber, traceNumbers, isSet, withoutPoint, penNumbers};
+ghost use Rattle.cabi.specs.Numbers.{verdictNumber, traceNumbers, isSet, withoutPoint, penNumbers, sumNumbers};
 
 #[repr(C)]
 pub struct OpenAnswer {
@@ -82,6 +86,12 @@ pub struct PenAnswer {
     pub x: f64,
     pub y: f64,
     pub z: f64,
+}
+
+#[repr(C)]
+pub struct SumAnswer {
+    pub refusal: u64,
+    pub sum: i64,
 }
 
 // Open.
@@ -289,5 +299,25 @@ pub extern "C" fn gethwapiko_pen(job: &[u8], places: &[u8], closed: u8, k: u64) 
             },
             PenMove::Close => without_point(0, 2),
         },
+    }
+}
+
+// The running sum of a polynomial, numbered from 0, at the vertex x y z w, from its last term to its first, after so many terms.
+#[no_mangle]
+pub extern "C" fn gethwapiko_running_sum(
+    job: &[u8],
+    polynomial: u64,
+    x: i64,
+    y: i64,
+    z: i64,
+    w: i64,
+    terms: u64,
+) -> SumAnswer
+    ensures { λ r. ⌜ r ≡ sumNumbers (runningSummed (now (job .entry)) polynomial (x ∷ y ∷ z ∷ w ∷ []) terms) ⌝ }
+{
+    let v = Vertex { x, y, z, w };
+    match sums::running_sum(job, polynomial as usize, v, terms as usize) {
+        Summed::Refused(refusal) => SumAnswer { refusal, sum: 0 },
+        Summed::Sum(sum) => SumAnswer { refusal: 0, sum },
     }
 }

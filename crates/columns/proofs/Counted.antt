@@ -6,7 +6,6 @@ use Prim.Native.Nat.{ℕ, suc, zero, _+_, _≤_, _<_}
 use native.Mathlib.Omega.{arith}
 use lib.Dec.{eqb}
 use borrow.Author.Tests.{eqb-true, eqb-false}
-use Rattle.exact.proofs.AndTests.{and-true}
 use Rattle.exact.specs.Crossed.{countFrom, remove}
 use Rattle.exact.proofs.CountFrom.{map-countFrom-ext}
 use Rattle.curves.specs.Step.{every}
@@ -16,15 +15,6 @@ and-false true b e = e
 and-false false b e = refl
 
 module _ {A : Type 0} (t : A → Bool) (f : ℕ → A) where
-  every-from : (k m : ℕ) → ((i : ℕ) → k ≤ i → i < k + m → t (f i) ≡ true) → every t (map f (countFrom k m)) ≡ true
-  unfolding every countFrom
-  every-from k zero h = refl
-  every-from k (suc m) h =
-      and-true (h k (omega arith) (omega arith)) (every-from (suc k) m (λ i l u. h i (omega arith) (omega arith)))
-
-  pub every-all : (m : ℕ) → ((i : ℕ) → i < m → t (f i) ≡ true) → every t (map f (countFrom 0 m)) ≡ true
-  every-all m h = every-from 0 m (λ i l u. h i (omega arith))
-
   fails-from : (k m i : ℕ) → k ≤ i → i < k + m → t (f i) ≡ false → every t (map f (countFrom k m)) ≡ false
   unfolding every countFrom
   fails-from k zero i l u h = absurd (omega arith)

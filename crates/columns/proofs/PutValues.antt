@@ -18,10 +18,11 @@ use Rattle.curves.specs.Grid.{Vertex}
 use Rattle.curves.specs.Step.{column, every}
 use Rattle.paper.specs.Job.{dimension, bias, body}
 use Rattle.paper.specs.Values.{rawSum, readableSum, valueOf, sums, fieldFrom, fieldOf}
+use Rattle.paper.proofs.Tests.{every-all}
 use Rattle.job.specs.OpenJob.{JobOf}
 use Rattle.facets.specs.Cells.{columnAt, entryLimit, Cells}
 use Rattle.columns.specs.Found.{ValuePut, ValuesPut}
-use Rattle.columns.proofs.Counted.{every-all, every-fails, same-each, map-map}
+use Rattle.columns.proofs.Counted.{every-fails, same-each, map-map}
 use Rattle.columns.proofs.OpenedJob.{job-value}
 
 -- ---- one cell

@@ -33,6 +33,8 @@ use Rattle.paper.specs.Listing.{listing}
 use Rattle.paper.specs.Answers as Answers
 use Rattle.paper.specs.Pen as Pen
 use Rattle.paper.specs.Pen.{Move, penned}
+use Rattle.paper.specs.RunningSum as RunningSum
+use Rattle.paper.specs.RunningSum.{runningSummed}
 use Rattle.paper.proofs.TextCodes.{lines}
 
 -- ---- the jobs
@@ -129,6 +131,9 @@ unfolding Int._⊕_ Int.neg Int._⊖_ Int._⊗_ Int.power
     Listing.firstLine Listing.placeNumbers Listing.placeLine Listing.placeLines Listing.listingSpace Listing.longestJob
     Listing.listingLines Listing.listing
     Pen.millimetre Pen.placeBytes Pen.placeCount Pen.closes Pen.penRefusal Pen.pointMillimetres Pen.penMove Pen.penned
+    RunningSum.powersProduct RunningSum.valueAt RunningSum.addTerms RunningSum.sumInOrder RunningSum.partialSum
+    RunningSum.termOf RunningSum.termsOf RunningSum.runningSum RunningSum.summedBody RunningSum.summedVertex
+    RunningSum.runningSumRefusal RunningSum.runningSummed
     Answers.padded Ieee.odd
     lines Count.ones
 bodyOffsets s = map (entryOffset s) (countFrom 0 (suc (dimension s)))
@@ -153,6 +158,8 @@ pub data Row : Type 0 where
   values : List ℕ → Vertex → List ℤ → Row
   -- Pen's answer for places in bytes, the mark and a number of a place
   pens : List ℕ → List ℕ → Bool → ℕ → Move → Row
+  -- the running sum of a polynomial at a vertex after so many terms
+  sums : List ℕ → ℕ → List ℤ → ℕ → Answer ℤ → Row
 
 -- what a row says
 abbrev pub Holds : Row → Type 0
@@ -166,6 +173,7 @@ Holds (counts s k v m) = verdictAndCount (traced s k) ≡ answered (v, m)
 Holds (prints s ls) = listing s ≡ lines ls
 Holds (values s v zs) = fieldOf s .value v ≡ zs
 Holds (pens s ps mark k m) = penned s ps mark k ≡ answered m
+Holds (sums s p v k a) = runningSummed s p v k ≡ a
 
 abbrev pub AllHold : List Row → Type 0
 AllHold [] = Unit {0}

@@ -3,6 +3,7 @@ pub mod TextCodes
 pub mod Cases
 pub mod Cases4
 pub mod CasesBias
+pub mod CasesSum
 pub mod Tests
 pub mod RangeSteps
 pub mod Refusals
@@ -10,6 +11,8 @@ pub mod Opens
 pub mod TermLimit
 pub mod Bodies
 pub mod Terms
+pub mod AnyOrder
+pub mod SumFromTop
 pub mod ShortPlaces
 pub mod WordBytes
 pub mod Encode

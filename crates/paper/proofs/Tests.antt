@@ -1,11 +1,14 @@
 -- Boolean tests taken apart: a test that holds for each number of a range, and the range of the dimensions.
 use mathlib.Core.Path.{_≡_, refl, subst}
 use mathlib.Core.Bool.{Bool, true, false}
+use mathlib.Core.List.{map}
 use Prim.Native.Nat.{ℕ, suc, zero, _+_, _≤_, _<_}
 use native.Mathlib.Omega.{arith}
 use lib.Dec.{eqb, leb}
 use borrow.Author.Tests.{eqb-true, eqb-false, leb-true}
 use Rattle.exact.proofs.AndTests.{and-left, and-right, and-true}
+use Rattle.exact.specs.Crossed.{countFrom}
+use Rattle.curves.specs.Step.{every}
 use Rattle.paper.specs.Limits.{dimensionOk}
 use Rattle.paper.specs.Job.{allFrom}
 
@@ -43,6 +46,17 @@ unfolding allFrom
 all-same t u k zero f = refl
 all-same t u k (suc m) f =
     rw (f k (omega arith) (omega arith), all-same t u (k + 1) m (λ i l h. f i (omega arith) (omega arith)))
+
+-- every member of a list of a function's values
+pub every-all :
+    {A : Type 0} (t : A → Bool) (f : ℕ → A) (m : ℕ) → ((i : ℕ) → i < m → t (f i) ≡ true) → every t (map f (countFrom 0 m)) ≡ true
+unfolding every countFrom
+every-all t f m h = every-from 0 m (λ i l u. h i (omega arith))
+  where
+    every-from : (k m : ℕ) → ((i : ℕ) → k ≤ i → i < k + m → t (f i) ≡ true) → every t (map f (countFrom k m)) ≡ true
+    every-from k zero h = refl
+    every-from k (suc m) h =
+        and-true (h k (omega arith) (omega arith)) (every-from (suc k) m (λ i l u. h i (omega arith) (omega arith)))
 
 -- ---- the dimensions
 

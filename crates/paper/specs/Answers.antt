@@ -17,6 +17,7 @@ use Rattle.paper.specs.declared.Placed as Placed
 use Rattle.paper.specs.declared.Stepped as Stepped
 use Rattle.paper.specs.declared.Verdict as Verdict
 use Rattle.paper.specs.declared.Traced as Traced
+use Rattle.paper.specs.declared.Summed as Summed
 use Rattle.paper.specs.Operations.{Answer, refused, answered}
 
 -- ---- Open
@@ -88,3 +89,9 @@ verdictAs Verdict.the-variants.Full = full
 unfoldable pub tracedAs : Traced.Traced → Answer (Walk.Verdict Stop × ℕ)
 tracedAs (Traced.the-variants.Refused k) = refused k
 tracedAs (Traced.the-variants.Listed v k) = answered (verdictAs v, k)
+
+-- ---- the running sum
+
+unfoldable pub summedAs : Summed.Summed → Answer ℤ
+summedAs (Summed.the-variants.Refused k) = refused k
+summedAs (Summed.the-variants.Sum z) = answered z

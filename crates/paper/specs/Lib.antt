@@ -10,3 +10,4 @@ pub mod Pen
 pub mod Listing
 pub mod Demand3
 pub mod Bias
+pub mod RunningSum

@@ -67,6 +67,12 @@ pub enum Traced {
     Listed(Verdict, u64),
 }
 
+// The running sum of a polynomial at a vertex, from its last term on (request 2.8).
+pub enum Summed {
+    Refused(u64),
+    Sum(i64),
+}
+
 // A point in millimetres, on axes 1 to 3; z is 0 in dimension 2.
 pub struct Millimetres {
     pub x: f64,

@@ -3,10 +3,12 @@
 use mathlib.Core.Path.{_≡_, refl}
 use Prim.Native.Nat.{ℕ, _+_, _*_, _^_, _-_, _≤_}
 use native.Mathlib.Omega.{arith}
+use native.Mathlib.Nat.{le-trans}
 use lib.Dec.{lit≤}
-use Rattle.paper.specs.Limits.{coordinateLimit, termLimit, coefficientLimit, degreeLimit}
-use Rattle.paper.proofs.TermLimit.{term-limit-most}
-use Rattle.values.specs.Sums.{monomialLimit, termSize, sumLimit}
+use Rattle.paper.specs.Limits.{coordinateLimit, coefficientLimit, degreeLimit}
+use Rattle.paper.specs.RunningSum.{monomialLimit, termSize, partialSumLimit}
+use Rattle.paper.proofs.AnyOrder.{limit-most}
+use Rattle.values.specs.Sums.{sumLimit}
 use Rattle.values.specs.Moves.{moveLimit}
 
 pub degree-limit : degreeLimit ≡ 4
@@ -47,6 +49,10 @@ pub move-word : moveLimit + 1 ≤ 2 ^ 63 - 1
 unfolding moveLimit
 move-word = lit≤ tt
 
-pub terms-within : (n m : ℕ) → m ≤ termLimit n → m * termSize ≤ sumLimit
-unfolding sumLimit
-terms-within n m l = rw term-size (omega (arith, term-limit-most n))
+pub limit-sum : (n : ℕ) → partialSumLimit n ≤ sumLimit
+unfolding sumLimit termSize monomialLimit coefficientLimit coordinateLimit degreeLimit
+limit-sum n = le-trans (limit-most n) (lit≤ tt)
+
+-- a term more than a partial sum
+pub limit-and-term : (n : ℕ) → partialSumLimit n + termSize ≤ 2 ^ 63 - 1
+limit-and-term n = rw term-size (omega (arith, rw term-size at (limit-most n)))

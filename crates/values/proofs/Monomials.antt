@@ -18,12 +18,13 @@ use Rattle.exact.proofs.Bits.{holds-call, back, fits-mul, holds-mul}
 use Rattle.paper.specs.Limits.{coordinateLimit, coefficientLimit, degreeLimit}
 use Rattle.paper.specs.Job.{termCount, exponentOf, coefficientOf, degree}
 use Rattle.paper.specs.Values.{monomial, termValue}
+use Rattle.paper.specs.RunningSum.{monomialLimit, termSize}
 use Rattle.paper.proofs.Terms.{polynomial-term, exponent-degree}
 use Rattle.bits.specs.Axes.{Axes}
 use Rattle.bits.proofs.EachDimension.{each-axes}
 use Rattle.places.specs.Held.{counted}
 use Rattle.places.proofs.Counted.{number-counts, number-absent}
-use Rattle.values.specs.Sums.{monomialLimit, termSize, Polynomial, PowersOf, base, tabled, factorOn}
+use Rattle.values.specs.Sums.{Polynomial, PowersOf, base, tabled, factorOn}
 use Rattle.values.proofs.Limits.{coefficient-word, monomial-word, term-word}
 use Rattle.values.proofs.Powers.{Computed, power-bound, power-word, powers-product, power-entry}
 

@@ -1,27 +1,32 @@
 -- Powers of coordinates up to the degree's limit, the table of them, and their products: all stay far inside 64 bits.
 use mathlib.Core.Path.{_≡_, refl, subst, _∙_}
+use mathlib.Core.Bool.{Bool, true}
 use mathlib.Core.List.{List, [], _∷_}
 use Prim.Native.Nat.{ℕ, suc, zero, _+_, _^_, _-_, _≤_, _<_}
 use native.Mathlib.Omega.{arith}
 use native.Mathlib.Nat.{le-trans, pow-succ', pow-le-pow-right}
-use lib.IntN.{ℤ, pos, _*ℤ_}
-use lib.ListN.{getD}
-use lib.Dec.{lit≤, lit<}
+use lib.IntN.{ℤ, pos, natAbs, _*ℤ_}
+use lib.ListN.{length, getD}
+use lib.Dec.{leb, lit≤, lit<}
 use lib.Pow.{pow-add}
 use mir.Syntax.{w64}
 use mir.Val.{SFits}
+use borrow.Author.Tests.{le-leb}
 use Rattle.exact.specs.Int.{_⊗_, power, 0ℤ}
 use Rattle.exact.specs.Size.{Size, Is}
 use Rattle.exact.proofs.Ring.{mul-one}
 use Rattle.exact.proofs.SizeLaws.{size-power}
 use Rattle.exact.proofs.Bits.{holds, holds-call, back, back-is, fits-mul, holds-mul}
+use Rattle.curves.specs.Step.{every}
 use Rattle.paper.specs.Limits.{coordinateLimit, degreeLimit}
+use Rattle.paper.specs.RunningSum.{monomialLimit, vertexWithin}
+use Rattle.paper.proofs.AnyOrder.{take-short}
 use Rattle.bits.specs.Axes.{Axes}
 use Rattle.bits.proofs.EachDimension.{each-axes}
 use Rattle.places.specs.declared.Vertex.{Vertex}
 use Rattle.places.specs.Held.{vertexAs}
 use Rattle.values.specs.Box.{Near}
-use Rattle.values.specs.Sums.{monomialLimit, PowersOf, base, Tables, tabled}
+use Rattle.values.specs.Sums.{PowersOf, base, Tables, tabled}
 use Rattle.values.proofs.Limits.{coordinate-word, degree-limit, monomial-limit}
 
 -- a power up to the degree's limit
@@ -142,3 +147,34 @@ module _ {n : ℕ} {v : Vertex} {px py pz pw : List ℤ} (d : Axes n) (s : Near 
       (λ z w. rw (x, y, z (lit< tt)))
       (λ z w. rw (x, y, z (lit< tt), w (lit< tt)))
       n d (λ h. base-is (s .z h) (k h)) (λ h. base-is (s .w h) (l h))
+
+-- ---- the vertex of the tables is one that a box may have
+
+base-within : {p : List ℤ} → PowersOf (base p) p → leb (natAbs (base p)) coordinateLimit ≡ true
+unfolding power coordinateLimit degreeLimit
+base-within {p} h = le-leb _ _ (subst (Size coordinateLimit) (mul-one (base p)) (h .power-at 1 (lit≤ tt) .size) .size)
+
+pub tables-within : (px py pz pw : List ℤ) (n : ℕ) → Axes n → Tables n px py pz pw → vertexWithin (tabled n px py pz pw) ≡ true
+unfolding vertexWithin every tabled
+tables-within px py pz pw n d t =
+    each-axes
+    (λ m. (2 < m → near pz ≡ true) → (3 < m → near pw ≡ true) → vertexWithin (tabled m px py pz pw) ≡ true)
+    (λ z w. rw (x, y))
+    (λ z w. rw (x, y, z (lit< tt)))
+    (λ z w. rw (x, y, z (lit< tt), w (lit< tt)))
+    n d (λ l. base-within (t .z l)) (λ l. base-within (t .w l))
+  where
+    near : List ℤ → Bool
+    near p = leb (natAbs (base p)) coordinateLimit
+    x : near px ≡ true
+    x = base-within (t .x)
+    y : near py ≡ true
+    y = base-within (t .y)
+
+pub tabled-short : (px py pz pw : List ℤ) (n : ℕ) → length (tabled n px py pz pw) ≤ 4
+unfolding tabled
+tabled-short px py pz pw n = take-short n (base px ∷ base py ∷ base pz ∷ base pw ∷ [])
+
+pub vertex-short : (n : ℕ) (v : Vertex) → length (vertexAs n v) ≤ 4
+unfolding vertexAs
+vertex-short n v = take-short n (v .x ∷ v .y ∷ v .z ∷ v .w ∷ [])

@@ -1,6 +1,6 @@
 -- The sum of a polynomial at a vertex: the limits that keep it inside 64 bits, what is asked of the polynomial's bytes, and the powers of
 -- a coordinate in a table, the power e at index e. Entry 1 of a table is the coordinate itself, so the tables give the vertex.
-use Prim.Native.Nat.{ℕ, _*_, _^_, _≤_, _<_}
+use Prim.Native.Nat.{ℕ, _^_, _≤_, _<_}
 use mathlib.Core.Path.{_≡_}
 use mathlib.Core.Bool.{true}
 use mathlib.Core.List.{List, [], _∷_}
@@ -9,18 +9,12 @@ use lib.ListN.{length, getD, take}
 use Rattle.exact.specs.Int.{power, 0ℤ, 1ℤ}
 use Rattle.exact.specs.Size.{Is}
 use Rattle.curves.specs.Grid.{Vertex}
-use Rattle.paper.specs.Limits.{coordinateLimit, termLimit, coefficientLimit, degreeLimit}
+use Rattle.paper.specs.Limits.{coordinateLimit, termLimit, degreeLimit}
 use Rattle.paper.specs.Job.{termCount, exponentOf, polynomialOk}
 use Rattle.bits.specs.Axes.{Axes}
 use Rattle.places.specs.Held.{counted}
 
--- the size of a term's product of powers, of a term, and of a sum of as many terms as a polynomial may have
-unfoldable pub monomialLimit : ℕ
-monomialLimit = coordinateLimit ^ degreeLimit
-
-unfoldable pub termSize : ℕ
-termSize = coefficientLimit * monomialLimit
-
+-- the size of a sum of as many terms as a polynomial may have, in any dimension
 unfoldable pub sumLimit : ℕ
 sumLimit = 2 ^ 59
 

@@ -1,12 +1,13 @@
 // The exact sum of a polynomial at a vertex, term by term; the powers of the coordinates are taken from tables.
-ghost use Prim.Native.Nat.{_^_, _<_};
+ghost use Prim.Native.Nat.{_^_, _≤_, _<_};
 ghost use Rattle.exact.specs.Size.{Size, Is};
 ghost use Rattle.paper.specs.Limits.{coordinateLimit};
 ghost use Rattle.paper.specs.Job.{termCount, exponentOf};
 ghost use Rattle.paper.specs.Values.{monomial, termValue, rawSum};
+ghost use Rattle.paper.specs.RunningSum.{monomialLimit, termSize, partialSumLimit, runningSum};
 ghost use Rattle.places.specs.Held.{vertexAs};
 ghost use Rattle.values.specs.Box.{Near};
-ghost use Rattle.values.specs.Sums.{monomialLimit, termSize, sumLimit, Polynomial, PowersOf, base, Tables, tabled, factorOn};
+ghost use Rattle.values.specs.Sums.{sumLimit, Polynomial, PowersOf, base, Tables, tabled, factorOn};
 use bits::read;
 use places::Vertex;
 
@@ -74,30 +75,47 @@ fn term_value(
     read::signed_double_word(body, 8 * i) * monomial(body, n, i, px, py, pz, pw)
 }
 
-// The exact sum of the polynomial at the vertex of the tables, first term to last.
-fn sum_of(body: &[u8], n: usize, px: &[i64; 5], py: &[i64; 5], pz: &[i64; 5], pw: &[i64; 5]) -> i64
-    requires { ⌜ Polynomial n (now body) ⌝ }
+// The running sum of the polynomial at the vertex of the tables, from its last term to its first, after so many terms: that of the last ones.
+fn sum_of_last(
+    body: &[u8],
+    n: usize,
+    terms: usize,
+    px: &[i64; 5],
+    py: &[i64; 5],
+    pz: &[i64; 5],
+    pw: &[i64; 5],
+) -> i64
+    requires { ⌜ (Polynomial n (now body)) × (terms ≤ termCount (now body)) ⌝ }
     requires { ⌜ Tables n (now px) (now py) (now pz) (now pw) ⌝ }
-    ensures { λ r. ⌜ Is sumLimit (rawSum (now (body .entry)) (tabled n (now (px .entry)) (now (py .entry)) (now (pz .entry)) (now (pw .entry)))) r ⌝ }
+    ensures { λ r. ⌜ Is (partialSumLimit n) (runningSum (now (body .entry)) (tabled n (now (px .entry)) (now (py .entry)) (now (pz .entry)) (now (pw .entry))) terms) r ⌝ }
 {
     let count = body.len() / 8;
     let mut sum: i64 = 0;
-    let mut i: usize = 0;
-    while i < count {
-        sum = sum + term_value(body, n, i, px, py, pz, pw);
-        i += 1;
+    let mut k: usize = 0;
+    while k < terms {
+        k += 1;
+        sum = sum + term_value(body, n, count - k, px, py, pz, pw);
     }
     sum
 }
 
-// The exact sum of the polynomial at a vertex.
-pub fn raw_sum(body: &[u8], n: usize, v: Vertex) -> i64
+// The running sum of the polynomial at a vertex, from its last term to its first, after so many terms.
+pub fn running_sum(body: &[u8], n: usize, v: Vertex, terms: usize) -> i64
     requires { ⌜ (Polynomial n (now body)) × (Near n v) ⌝ }
-    ensures { λ r. ⌜ Is sumLimit (rawSum (now (body .entry)) (vertexAs n v)) r ⌝ }
+    requires { ⌜ terms ≤ termCount (now body) ⌝ }
+    ensures { λ r. ⌜ Is (partialSumLimit n) (runningSum (now (body .entry)) (vertexAs n v) terms) r ⌝ }
 {
     let px = powers(n, 0, v.x);
     let py = powers(n, 1, v.y);
     let pz = powers(n, 2, v.z);
     let pw = powers(n, 3, v.w);
-    sum_of(body, n, &px, &py, &pz, &pw)
+    sum_of_last(body, n, terms, &px, &py, &pz, &pw)
+}
+
+// The exact sum of the polynomial at a vertex: the running sum after all its terms.
+pub fn raw_sum(body: &[u8], n: usize, v: Vertex) -> i64
+    requires { ⌜ (Polynomial n (now body)) × (Near n v) ⌝ }
+    ensures { λ r. ⌜ Is sumLimit (rawSum (now (body .entry)) (vertexAs n v)) r ⌝ }
+{
+    running_sum(body, n, v, body.len() / 8)
 }

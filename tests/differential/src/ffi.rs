@@ -6,6 +6,7 @@
 
 use reference::build::place;
 use reference::grid::{vertex, Vertex};
+use reference::limits::MOST;
 use reference::operations::{Move, Step, Verdict};
 use reference::product::Product;
 
@@ -77,6 +78,13 @@ struct PenAnswer {
     z: f64,
 }
 
+#[repr(C)]
+#[derive(Clone, Copy, PartialEq, Debug)]
+struct SumAnswer {
+    refusal: u64,
+    sum: i64,
+}
+
 extern "C" {
     fn gethwapiko_open(job: *const u8, job_len: usize) -> OpenAnswer;
     fn gethwapiko_body(job: *const u8, job_len: usize, index: u64) -> BodyAnswer;
@@ -112,6 +120,16 @@ extern "C" {
         closed: u8,
         k: u64,
     ) -> PenAnswer;
+    fn gethwapiko_running_sum(
+        job: *const u8,
+        job_len: usize,
+        polynomial: u64,
+        x: i64,
+        y: i64,
+        z: i64,
+        w: i64,
+        terms: u64,
+    ) -> SumAnswer;
 }
 
 /// The refusal, if there is one, with the rest of the answer checked to be 0.
@@ -234,5 +252,21 @@ impl Product for Library {
             }
             _ => panic!("no move {}", a.kind),
         })
+    }
+
+    #[inline]
+    fn running_sum(
+        &self,
+        job: &[u8],
+        polynomial: u64,
+        coordinates: &[i64; MOST],
+        terms: u64,
+    ) -> Result<i128, u8> {
+        let [x, y, z, w] = *coordinates;
+        let a = unsafe {
+            gethwapiko_running_sum(job.as_ptr(), job.len(), polynomial, x, y, z, w, terms)
+        };
+        refused(a.refusal, a.sum == 0)?;
+        Ok(a.sum as i128)
     }
 }

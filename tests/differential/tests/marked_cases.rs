@@ -1,4 +1,5 @@
-//! Cases A to J, their like in dimension 4 and at a bias, and the wrong turns on the proved library.
+//! Cases A to J, their like in dimension 4 and at a bias, running sums, and the wrong turns on
+//! the proved library.
 
 use library::ffi::Library;
 use reference::marked;
@@ -16,6 +17,11 @@ fn dimension_4() {
 #[test]
 fn bias() {
     marked::bias(&Library);
+}
+
+#[test]
+fn running_sums() {
+    marked::running_sums(&Library);
 }
 
 #[test]

@@ -10,19 +10,32 @@ pub struct Term {
     pub exponents: [u8; MOST],
 }
 
-/// The polynomial's exact sum at a vertex; 0 to the power 0 is 1.
-pub fn sum(polynomial: &[Term], v: &Vertex) -> i128 {
-    let mut sum = 0;
-    for term in polynomial {
-        let mut product = term.coefficient as i128;
-        for (&x, &e) in v.iter().zip(&term.exponents) {
+impl Term {
+    /// The term's product at a vertex; 0 to the power 0 is 1.
+    fn at(&self, v: &Vertex) -> i128 {
+        let mut product = self.coefficient as i128;
+        for (&x, &e) in v.iter().zip(&self.exponents) {
             for _ in 0..e {
                 product *= x as i128;
             }
         }
-        sum += product;
+        product
     }
-    sum
+}
+
+/// The polynomial's exact sum at a vertex.
+pub fn sum(polynomial: &[Term], v: &Vertex) -> i128 {
+    polynomial.iter().map(|term| term.at(v)).sum()
+}
+
+/// The running sums after 0, 1, .. and all terms, from the last term to the first, as the
+/// controller people sum.
+pub fn running_sums(polynomial: &[Term], v: &Vertex) -> Vec<i128> {
+    let mut sums = vec![0];
+    for term in polynomial.iter().rev() {
+        sums.push(sums[sums.len() - 1] + term.at(v));
+    }
+    sums
 }
 
 /// What a readable sum counts as: 0 if it is no larger in size than the bias.

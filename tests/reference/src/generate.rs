@@ -5,7 +5,8 @@
 //! all terms that a body may hold, sheets that almost touch. Each has a bias (`biases`), and sums at
 //! the bias and 1 past it. Their starts are searched for, so that most are crossed and traces are
 //! long. Other jobs (`changes`) are valid ones changed at the limits of a field, cut,
-//! lengthened or rebuilt; and plain noise. `places` has places to judge and to step from.
+//! lengthened or rebuilt; and plain noise. `places` has places to judge and to step from, `sums`
+//! has running sums to ask for.
 //!
 //! What is tried has a name, and each input says by which names it was made: a test counts them.
 
@@ -14,9 +15,11 @@ mod changes;
 mod kinds;
 mod places;
 mod random;
+mod sums;
 
 pub use biases::Bias;
 pub use changes::{any_job, AnyJob, Change, Damage, JobTally};
-pub use kinds::{valid, valid_small, Kind, Made};
+pub use kinds::{valid, valid_of_any, valid_small, vertex_in, Kind, Made};
 pub use places::{any_place, AnyPlace, PlaceDamage, PlaceKind, PlaceTally};
 pub use random::Random;
+pub use sums::{any_sum, with_largest_terms, AnySum, CountKind, NumberKind, SumKinds, VertexKind};

@@ -1,5 +1,5 @@
-//! "Marked cases" A to J, their like in dimension 4 and at a bias, and the wrong turns, as checks of
-//! any product.
+//! "Marked cases" A to J, their like in dimension 4 and at a bias, running sums, and the wrong turns,
+//! as checks of any product.
 
 use crate::build::{case_a, case_c, exponents, gathered, place, power_of, term, Parts};
 use crate::crossed::Term;
@@ -379,6 +379,47 @@ fn pieces_joined_by_the_bias(p: &dyn Product, n: usize) {
         let back = with_start(&job, &places[count - 1].turned());
         let reversed = places.iter().rev().map(|place| place.turned()).collect();
         assert_eq!(traced(p, &back, n, count), (Verdict::Loop, reversed));
+    }
+}
+
+/// Request 2.8: sums from the last term to the first.
+pub fn running_sums(p: &dyn Product) {
+    // A at 1 0: 2 x^2 is 2, 2 y^2 is 0, and then -1.
+    let a = case_a().bytes();
+    let sums = [0, 1, 2, 3, 4].map(|terms| p.running_sum(&a, 0, &[1, 0, 0, 0], terms));
+    assert_eq!(sums, [Ok(0), Ok(2), Ok(2), Ok(1), Err(12)]);
+    // 7 + 2 y^4 - 3 x y + 1,048,576 x^4 at x = -2, y = 3 as each of the polynomials.
+    let terms = [(7, [0, 0]), (2, [0, 4]), (-3, [1, 1]), (1_048_576, [4, 0])];
+    for n in DIMENSIONS {
+        for number in 0..n as u64 - 1 {
+            let mut parts = Parts { bias: 255, ends: vec![(-2, 3); n], ..case_c(n) };
+            parts.polynomials[number as usize] = terms.map(|(c, e)| term(c, &e)).to_vec();
+            running_sums_in(p, &parts, number);
+        }
+    }
+}
+
+/// The terms are 7, 162, 18 and 16,777,216; the last is not readable in dimension 4. The refusals
+/// are 12, then 9, and what stands above axis n does not count.
+fn running_sums_in(p: &dyn Product, parts: &Parts, number: u64) {
+    let job = parts.bytes();
+    let sum = |number, at: &[i64], terms| {
+        let mut coordinates = [i64::MAX; 4];
+        coordinates[..parts.n].fill(0);
+        coordinates[..at.len()].copy_from_slice(at);
+        p.running_sum(&job, number, &coordinates, terms)
+    };
+    for (k, wanted) in [0, 16_777_216, 16_777_234, 16_777_396, 16_777_403].into_iter().enumerate() {
+        assert_eq!(sum(number, &[-2, 3], k as u64), Ok(wanted));
+    }
+    let past = parts.n as u64 - 1;
+    for (number, terms) in [(past, 0), (u64::MAX, 0), (number, 5), (number, u64::MAX)] {
+        assert_eq!(sum(number, &[-2, 3], terms), Err(12));
+        assert_eq!(sum(number, &[-3, 3], terms), Err(12));
+    }
+    for outside in [[-3, 3], [4, 3], [-2, -3], [-2, 4], [i64::MIN, 3], [-2, i64::MAX]] {
+        assert_eq!(sum(number, &outside, 4), Err(9));
+        assert_eq!(sum(number, &outside, 0), Err(9));
     }
 }
 

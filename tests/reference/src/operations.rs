@@ -1,8 +1,8 @@
 //! "Operations and what they turn down". Each opens the job first; its own refusals are
 //! tested in the order written. A refusal is its number alone and no buffer is touched.
 
-use crate::crossed::{self, column, is_crossed, sum, Column};
-use crate::grid::{Facet, Place, Vertex};
+use crate::crossed::{self, column, is_crossed, running_sums, sum, Column};
+use crate::grid::{vertex, Facet, Place, Vertex};
 use crate::job::{open, Job};
 use crate::limits::MOST;
 
@@ -214,4 +214,28 @@ pub fn pen(job: &[u8], places: &[u8], closed: bool, k: u64) -> Result<Move, u8> 
     // Axes 1 to 3: the third is 0 for n = 2.
     let millimetres = [1, 2, 3].map(|axis: usize| steps[axis - 1] as f64 / 1024.0);
     Ok(if k == 0 { Move::Lift(millimetres) } else { Move::Draw(millimetres) })
+}
+
+/// **Running sum.** 12 the polynomial's number is not under n - 1; 12 more terms than it has; 9 the
+/// vertex outside the box. Else the exact sum after so many terms, from the last to the first,
+/// without the readable test and without the bias. Coordinates above n are not read.
+pub fn running_sum(
+    job: &[u8],
+    polynomial: u64,
+    coordinates: &[i64; MOST],
+    terms: u64,
+) -> Result<i128, u8> {
+    let job = open(job)?;
+    if polynomial >= job.n as u64 - 1 {
+        return Err(12);
+    }
+    let polynomial = &job.polynomials[polynomial as usize];
+    if terms > polynomial.len() as u64 {
+        return Err(12);
+    }
+    let v = vertex(&coordinates[..job.n]);
+    if !in_box(&job, &v) {
+        return Err(9);
+    }
+    Ok(running_sums(polynomial, &v)[terms as usize])
 }

@@ -3,6 +3,7 @@
 
 use crate::grid::Vertex;
 use crate::job;
+use crate::limits::MOST;
 use crate::operations::{self, Move, Step, Verdict};
 
 /// Everything the product answers. A refusal is its number.
@@ -17,6 +18,14 @@ pub trait Product {
     fn step(&self, job: &[u8], place: &[u8]) -> Result<Step, u8>;
     fn trace(&self, job: &[u8], buffer: &mut [u8]) -> Result<(Verdict, usize), u8>;
     fn pen(&self, job: &[u8], places: &[u8], closed: bool, k: u64) -> Result<Move, u8>;
+    /// The sum of the last `terms` terms. Polynomials are numbered from 0.
+    fn running_sum(
+        &self,
+        job: &[u8],
+        polynomial: u64,
+        coordinates: &[i64; MOST],
+        terms: u64,
+    ) -> Result<i128, u8>;
 }
 
 /// The reference.
@@ -44,5 +53,14 @@ impl Product for Reference {
     }
     fn pen(&self, job: &[u8], places: &[u8], closed: bool, k: u64) -> Result<Move, u8> {
         operations::pen(job, places, closed, k)
+    }
+    fn running_sum(
+        &self,
+        job: &[u8],
+        polynomial: u64,
+        coordinates: &[i64; MOST],
+        terms: u64,
+    ) -> Result<i128, u8> {
+        operations::running_sum(job, polynomial, coordinates, terms)
     }
 }

@@ -1,4 +1,5 @@
-//! Cases A to J, their like in dimension 4 and at a bias, and the wrong turns on the reference.
+//! Cases A to J, their like in dimension 4 and at a bias, running sums, and the wrong turns on
+//! the reference.
 
 use reference::build::{case_a, case_c};
 use reference::listing::listing;
@@ -18,6 +19,11 @@ fn dimension_4() {
 #[test]
 fn bias() {
     marked::bias(&Reference);
+}
+
+#[test]
+fn running_sums() {
+    marked::running_sums(&Reference);
 }
 
 #[test]

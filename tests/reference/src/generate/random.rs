@@ -60,4 +60,11 @@ impl Random {
     pub fn once_in(&mut self, n: u64) -> bool {
         self.below(n) == 0
     }
+
+    /// Puts the list into any order.
+    pub fn shuffle<T>(&mut self, list: &mut [T]) {
+        for k in 1..list.len() {
+            list.swap(k, self.index(k + 1));
+        }
+    }
 }

@@ -6,8 +6,9 @@ use native.Mathlib.Omega.{arith}
 use borrow.Author.Count.{below-none, below-more}
 use borrow.Author.Tests.{not-true, not-false}
 use Rattle.paper.specs.Values.{fieldOf}
+use Rattle.paper.proofs.Tests.{every-all}
 use Rattle.columns.specs.Vertices.{vertexAt, vertexList}
-use Rattle.columns.proofs.Counted.{every-all, every-fails}
+use Rattle.columns.proofs.Counted.{every-fails}
 use Rattle.columns.proofs.PutColumns.{at-vertex}
 use Rattle.columns.proofs.masks.all_inside.Statement.{statement}
 use Rattle.columns.proofs.masks.all_inside.Tie as tie

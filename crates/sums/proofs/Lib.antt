@@ -1,0 +1,2 @@
+-- Laws that the function of this crate cites.
+pub mod SumAnswers

@@ -1,0 +1,2 @@
+-- How the operation is handed a vertex.
+pub mod Given
