@@ -93,7 +93,7 @@ length-derived (List·Permᴰ·trans d e) = length-derived e ∙ length-derived 
 pub within-any-order : (n : ℕ) {ts us : List Term} → Perm ts us → termsWithin n us ≡ termsWithin n ts
 unfolding termsWithin
 within-any-order n p =
-    ∥∥₁-elim p (Bool-set _ _) (λ d. ap₂ (λ x y. leb x (termLimit n) && y) (length-derived d) (every-derived termWithin d))
+    ∥∥₁-elim p (Bool-set _ _) (λ d. rw (length-derived d, every-derived termWithin d))
 
 -- ---- the size of a term
 

@@ -168,8 +168,8 @@ inside-within n b v o h = from 0 v (omega arith)
         let rest = and-right lower (upper && insideFrom b (suc a) v) h in
         let ends = box-axis n b a o (omega arith) in
         let size =
-            between-size coordinateLimit (lowEnd b a) (highEnd b a) x
-            (ends .low) (and-left lower (upper && insideFrom b (suc a) v) h) (and-left upper (insideFrom b (suc a) v) rest) (ends .high)
+        between-size coordinateLimit (lowEnd b a) (highEnd b a) x
+        (ends .low) (and-left lower (upper && insideFrom b (suc a) v) h) (and-left upper (insideFrom b (suc a) v) rest) (ends .high)
         in
         and-true (le-leb _ _ size) (from (suc a) v (omega arith) (and-right upper (insideFrom b (suc a) v) rest))
 

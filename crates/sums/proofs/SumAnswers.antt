@@ -72,6 +72,6 @@ module _ {n : ℕ} {s : List ℕ} (j : JobOf n s) (p : ℕ) (v : Vertex) (k : �
       sum-answered h {r} i =
           let test = sym inside-is ∙ h in
           let sum : back r ≡ runningSum (body s (p + 1)) (summedVertex s (coordinates v)) k =
-              holds-call i (limit-word n) .is ∙ ap₂ (λ c u. runningSum c u k) e vertex-is
+          holds-call i (limit-word n) .is ∙ ap₂ (λ c u. runningSum c u k) e vertex-is
           in
           rw (j .opens, index-ok, count-ok, test) (ap answered sum)

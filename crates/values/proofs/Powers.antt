@@ -154,7 +154,7 @@ base-within : {p : List ℤ} → PowersOf (base p) p → leb (natAbs (base p)) c
 unfolding power coordinateLimit degreeLimit
 base-within {p} h = le-leb _ _ (subst (Size coordinateLimit) (mul-one (base p)) (h .power-at 1 (lit≤ tt) .size) .size)
 
-pub tables-within : (px py pz pw : List ℤ) (n : ℕ) → Axes n → Tables n px py pz pw → vertexWithin (tabled n px py pz pw) ≡ true
+tables-within : (px py pz pw : List ℤ) (n : ℕ) → Axes n → Tables n px py pz pw → vertexWithin (tabled n px py pz pw) ≡ true
 unfolding vertexWithin every tabled
 tables-within px py pz pw n d t =
     each-axes
@@ -166,14 +166,22 @@ tables-within px py pz pw n d t =
   where
     near : List ℤ → Bool
     near p = leb (natAbs (base p)) coordinateLimit
+
     x : near px ≡ true
     x = base-within (t .x)
+
     y : near py ≡ true
     y = base-within (t .y)
 
-pub tabled-short : (px py pz pw : List ℤ) (n : ℕ) → length (tabled n px py pz pw) ≤ 4
+-- what the laws of sums ask of a vertex
+pub record BoxVertex (v : List ℤ) : Type 0 where
+  pub short : length v ≤ 4
+  pub near : vertexWithin v ≡ true
+
+pub tables-vertex : {px py pz pw : List ℤ} {n : ℕ} → Axes n → Tables n px py pz pw → BoxVertex (tabled n px py pz pw)
 unfolding tabled
-tabled-short px py pz pw n = take-short n (base px ∷ base py ∷ base pz ∷ base pw ∷ [])
+tables-vertex {px} {py} {pz} {pw} {n} d t =
+    record { short = take-short n (base px ∷ base py ∷ base pz ∷ base pw ∷ []); near = tables-within px py pz pw n d t }
 
 pub vertex-short : (n : ℕ) (v : Vertex) → length (vertexAs n v) ≤ 4
 unfolding vertexAs

@@ -89,12 +89,12 @@ fn sum_of_last(
     requires { ⌜ Tables n (now px) (now py) (now pz) (now pw) ⌝ }
     ensures { λ r. ⌜ Is (partialSumLimit n) (runningSum (now (body .entry)) (tabled n (now (px .entry)) (now (py .entry)) (now (pz .entry)) (now (pw .entry))) terms) r ⌝ }
 {
-    let count = body.len() / 8;
+    let mut i = body.len() / 8;
+    let first = i - terms;
     let mut sum: i64 = 0;
-    let mut k: usize = 0;
-    while k < terms {
-        k += 1;
-        sum = sum + term_value(body, n, count - k, px, py, pz, pw);
+    while first < i {
+        i -= 1;
+        sum = sum + term_value(body, n, i, px, py, pz, pw);
     }
     sum
 }
@@ -112,10 +112,15 @@ pub fn running_sum(body: &[u8], n: usize, v: Vertex, terms: usize) -> i64
     sum_of_last(body, n, terms, &px, &py, &pz, &pw)
 }
 
-// The exact sum of the polynomial at a vertex: the running sum after all its terms.
+// The exact sum of the polynomial at a vertex: its running sum after all terms. It makes its own tables and does not call `running_sum`: a
+// trace spends its time here, and with one caller each of the two is inlined.
 pub fn raw_sum(body: &[u8], n: usize, v: Vertex) -> i64
     requires { ⌜ (Polynomial n (now body)) × (Near n v) ⌝ }
     ensures { λ r. ⌜ Is sumLimit (rawSum (now (body .entry)) (vertexAs n v)) r ⌝ }
 {
-    running_sum(body, n, v, body.len() / 8)
+    let px = powers(n, 0, v.x);
+    let py = powers(n, 1, v.y);
+    let pz = powers(n, 2, v.z);
+    let pw = powers(n, 3, v.w);
+    sum_of_last(body, n, body.len() / 8, &px, &py, &pz, &pw)
 }

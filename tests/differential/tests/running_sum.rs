@@ -1,6 +1,6 @@
 //! The running sum against the reference.
 
-use library::answers::{and_those_of_open, Answers};
+use library::answers::Answers;
 use library::ffi::Library;
 use reference::build::{case_a, case_c, exponents, Parts};
 use reference::crossed::{running_sums, sum, value, Term};
@@ -11,7 +11,7 @@ use reference::generate::{
 use reference::grid::{vertex, Vertex};
 use reference::limits::{Limits, DIMENSIONS, MOST};
 use reference::product::{Product, Reference};
-use reference::tally::{Answer, Tally};
+use reference::tally::{Answer, Named, Tally};
 
 /// Compares the two answers; gives what they are.
 fn compare(job: &[u8], polynomial: u64, at: &[i64; MOST], terms: u64) -> Result<i128, u8> {
@@ -30,7 +30,7 @@ fn name(n: usize, answer: Result<i128, u8>) -> Answer {
     answer.map(|sum| if readable(sum) { "readable" } else { "not readable" })
 }
 
-/// Sums by which a wrong product is told.
+/// Sums that a wrong product would not give.
 const TELLING: [&str; 4] =
     ["unlike that of the first", "larger than the whole", "0 by the bias", "of a full body"];
 
@@ -64,11 +64,12 @@ struct Met {
     far: Tally<(&'static str, u64)>,
     /// Axis and coordinate: 9.
     outside: Tally<(usize, &'static str)>,
-    // What was answered: the axes on which a corner is at the high end, the polynomials, the counts
-    // of terms, whether there were numbers above axis n.
+    // Of those that were answered:
+    /// The mask of the axes on which a corner is at the high end.
     corners: Tally<usize>,
     polynomials: Tally<u64>,
     terms: Tally<u64>,
+    /// Whether a number above axis n was not 0.
     noise: Tally<bool>,
     telling: Tally<&'static str>,
 }
@@ -145,6 +146,7 @@ fn running_sum_is_the_reference() {
         for _ in 0..5 {
             let asked = any_sum(&mut r, &parts);
             let answer = compare(&job, asked.polynomial, &asked.coordinates, asked.terms);
+            assert_eq!(answer.err(), asked.refusal(), "{asked:?} of {job:?}");
             met.count(names.bias, &parts, &asked, answer);
         }
     }
@@ -152,7 +154,8 @@ fn running_sum_is_the_reference() {
     met.assert_all();
 }
 
-/// The job is opened first, whatever is asked for.
+/// The job is opened first, whatever is asked for: each refusal of Open comes up with each kind of
+/// number.
 #[test]
 fn running_sum_opens_first() {
     let mut r = Random::new(27);
@@ -162,24 +165,25 @@ fn running_sum_opens_first() {
         let job = any_job(&mut r);
         let asked = any_sum(&mut r, &parts);
         let answer = compare(&job.bytes, asked.polynomial, &asked.coordinates, asked.terms);
-        answers.count(job.n(), name(job.n(), answer));
+        answers.count(job.n(), (name(job.n(), answer), asked.kinds.0));
         made.count(&job);
     }
     made.assert_all();
-    answers.assert_met(&and_those_of_open(&OWN));
+    let with_each = |number| NumberKind::all().into_iter().map(move |kind| (Err(number), kind));
+    answers.assert_includes(&(1..=8).chain([12]).flat_map(with_each).collect::<Vec<_>>());
+    answers.assert_includes(&[Err(9), Ok("readable")].map(|own| (own, NumberKind::OfTheJob)));
 }
 
-/// Compares every partial sum of a polynomial; gives the whole, which is the same from the first
-/// term to the last.
-fn compare_all(parts: &Parts, polynomial: usize, v: &Vertex) -> i128 {
+/// Compares every partial sum of a polynomial; gives them. The last is the same from the first term
+/// to the last.
+fn compare_all(parts: &Parts, polynomial: usize, v: &Vertex) -> Vec<i128> {
     let (job, terms) = (parts.bytes(), &parts.polynomials[polynomial]);
-    let whole = sum(terms, v);
     let wanted = running_sums(terms, v);
-    assert_eq!((wanted.first(), wanted.last()), (Some(&0), Some(&whole)));
-    for (k, sum) in wanted.into_iter().enumerate() {
+    assert_eq!((wanted.first(), wanted.last()), (Some(&0), Some(&sum(terms, v))));
+    for (k, &sum) in wanted.iter().enumerate() {
         assert_eq!(compare(&job, polynomial as u64, v, k as u64), Ok(sum));
     }
-    whole
+    wanted
 }
 
 /// One by one, of each polynomial at a vertex of the box.
@@ -203,27 +207,34 @@ fn every_partial_sum() {
     }
 }
 
-/// Of full bodies of the largest terms, at the corners of the largest box: the largest sum that a
-/// polynomial can have comes up, the least, and others.
+/// The largest sum that a polynomial can have, the least, and one that a 64-bit float would round.
+const LARGE: [&str; 3] = ["the largest", "the least", "rounded by a float"];
+
+/// Which of them it is.
+fn large(n: usize, sum: i128) -> Option<&'static str> {
+    let degrees = exponents(n).iter().map(|e| e.iter().sum::<u8>() as u32);
+    let largest: i128 = degrees.map(|degree| 256i128.pow(degree) << 20).sum();
+    let holds = [sum == largest, sum == -largest, sum != sum as f64 as i128];
+    holds.iter().position(|&holds| holds).map(|k| LARGE[k])
+}
+
+/// One by one, of full bodies of the largest terms, at and beside the corners of the largest box.
 #[test]
 fn largest_sums() {
     let mut r = Random::new(29);
     let mut met = Tally::default();
     for n in DIMENSIONS {
-        let degrees = exponents(n).iter().map(|e| e.iter().sum::<u8>() as u32);
-        let largest: i128 = degrees.map(|degree| 256i128.pow(degree) << 20).sum();
         for _ in 0..300 {
             let parts = with_largest_terms(&mut r, n);
+            let from = r.pick(&[&[256][..], &[256, -256], &[256, -256, 255, -255]]);
+            let at: Vec<i64> = (0..n).map(|_| r.pick(from)).collect();
             for k in 0..n - 1 {
-                let corner: Vec<i64> =
-                    parts.ends.iter().map(|&(low, high)| r.pick(&[low, high])).collect();
-                let whole = compare_all(&parts, k, &vertex(&corner));
-                let size = if whole.abs() == largest { whole.signum() } else { 0 };
-                met.count(n, size);
+                let sums = compare_all(&parts, k, &vertex(&at));
+                sums.iter().filter_map(|&sum| large(n, sum)).for_each(|name| met.count(n, name));
             }
         }
     }
-    met.assert_met(&[-1, 0, 1]);
+    met.assert_met(&LARGE);
 }
 
 /// Sums are the same at every bias.

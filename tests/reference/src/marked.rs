@@ -1,5 +1,5 @@
-//! "Marked cases" A to J, their like in dimension 4 and at a bias, running sums, and the wrong turns,
-//! as checks of any product.
+//! "Marked cases" A to J, their like in dimension 4 and at a bias, running sums, and the wrong
+//! turns, as checks of any product.
 
 use crate::build::{case_a, case_c, exponents, gathered, place, power_of, term, Parts};
 use crate::crossed::Term;
@@ -388,6 +388,8 @@ pub fn running_sums(p: &dyn Product) {
     let a = case_a().bytes();
     let sums = [0, 1, 2, 3, 4].map(|terms| p.running_sum(&a, 0, &[1, 0, 0, 0], terms));
     assert_eq!(sums, [Ok(0), Ok(2), Ok(2), Ok(1), Err(12)]);
+    // The job is opened first.
+    assert_eq!(p.running_sum(&a[..3], u64::MAX, &[2, 0, 0, 0], 4), Err(1));
     // 7 + 2 y^4 - 3 x y + 1,048,576 x^4 at x = -2, y = 3 as each of the polynomials.
     let terms = [(7, [0, 0]), (2, [0, 4]), (-3, [1, 1]), (1_048_576, [4, 0])];
     for n in DIMENSIONS {

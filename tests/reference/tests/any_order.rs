@@ -1,6 +1,6 @@
-//! The order of a sum cannot matter, and no partial sum leaves 64 bits: request 2.8, for any list of
-//! no more terms than a body may hold, each within the limits, at any vertex that a box may have.
-//! Such a list need not be a body: its terms may repeat, and stand in any order.
+//! The order of a sum cannot matter, and no partial sum leaves 64 bits: request 2.8, for any list
+//! of no more terms than a body may hold, each within the limits, at any vertex that a box may
+//! have. Such a list need not be a body: its terms may repeat, and stand in any order.
 
 use reference::build::{exponents, power_of};
 use reference::crossed::{running_sums, sum, Term};

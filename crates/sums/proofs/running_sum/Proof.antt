@@ -58,8 +58,7 @@ running-sum-requires : tie.Need-running-sum-requires
 unfolding termCount
 running-sum-requires c κs =
     let j = job (c .before .before .before .before .before) in
-    let under = c .before .before .before .before .if2 .left in
-    (
+    let under = c .before .before .before .before .if2 .left in (
       (
         job-polynomial j _ (omega arith) (omega (arith, under)) (c .before .before .before .opened-body .ensures .1),
         job-near j _ (sym (c .before .vertex-inside .ensures) ∙ not-false _ (c .if4 .left)),

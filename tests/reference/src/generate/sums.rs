@@ -166,13 +166,15 @@ impl Tally<SumKinds> {
     }
 }
 
-/// A job with each term that a body may hold, of the largest size, in the largest box: its sums are
-/// as large as they come where the signs agree, and fall below a partial sum where they do not.
+/// A job with each term that a body may hold, of the largest size or little less, in the largest
+/// box: its sums are as large as they come where the signs agree, and fall below a partial sum
+/// where they do not. All of the largest size, they are multiples of it.
 pub fn with_largest_terms(r: &mut Random, n: usize) -> Parts {
     let signs = r.pick(&[&[1][..], &[-1], &[1, -1]]);
+    let less = r.pick(&[0, 9]);
     let largest = |r: &mut Random, &exponents: &[u8; MOST]| {
-        let coefficient = r.pick(signs) * LARGEST_COEFFICIENT;
-        Term { coefficient, exponents }
+        let size = r.between(LARGEST_COEFFICIENT - less, LARGEST_COEFFICIENT);
+        Term { coefficient: r.pick(signs) * size, exponents }
     };
     let full = |r: &mut Random| exponents(n).iter().map(|e| largest(r, e)).collect();
     Parts {
@@ -208,7 +210,10 @@ mod tests {
         let mut r = Random::new(8);
         let mut kinds = Tally::default();
         for _ in 0..20_000 {
-            let (_, parts) = valid_of_any(&mut r, false);
+            let (_, mut parts) = valid_of_any(&mut r, false);
+            if r.once_in(10) {
+                parts = with_largest_terms(&mut r, parts.n);
+            }
             for _ in 0..5 {
                 let asked = any_sum(&mut r, &parts);
                 let AnySum { polynomial, coordinates, terms, .. } = asked;

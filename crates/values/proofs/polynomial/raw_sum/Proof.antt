@@ -1,18 +1,51 @@
--- `values::polynomial::raw_sum` meets its contract: the running sum after all terms is the sum.
+-- `values::polynomial::raw_sum` meets its contract: the tables are those of the vertex, and the running sum after all terms is the sum.
 use native.Mathlib.Omega.{arith}
 use Rattle.paper.specs.Job.{termCount}
-use Rattle.values.proofs.Powers.{vertex-short}
-use Rattle.values.proofs.PartialSums.{raw-sum-is}
+use Rattle.exact.proofs.Bits.{back-size}
+use Rattle.values.proofs.Limits.{coordinate-word}
+use Rattle.values.proofs.Powers.{tables, tabled-is, vertex-short}
+use Rattle.values.proofs.PartialSums.{raw-sum-at}
 use Rattle.values.proofs.polynomial.raw_sum.Statement.{statement}
 use Rattle.values.proofs.polynomial.raw_sum.Tie as tie
 
-running-sum-requires : tie.Need-running-sum-requires
+powers-requires : tie.Need-powers-requires
+powers-requires c κs = λ l. back-size (c .before .before .pre .1 .x) coordinate-word
+
+powers-requires-2 : tie.Need-powers-requires-2
+powers-requires-2 c κs = λ l. back-size (c .before .before .before .before .pre .1 .y) coordinate-word
+
+powers-requires-3 : tie.Need-powers-requires-3
+powers-requires-3 c κs = λ l. back-size (c .before .before .before .before .before .before .pre .1 .z l) coordinate-word
+
+powers-requires-4 : tie.Need-powers-requires-4
+powers-requires-4 c κs = λ l. back-size (c .before .before .before .before .before .before .before .before .pre .1 .w l) coordinate-word
+
+sum-of-last-requires : tie.Need-sum-of-last-requires
 unfolding termCount
-running-sum-requires c κs = (c .before .pre, omega arith)
+sum-of-last-requires c κs =
+    let of-w = c .before .before .before .before in
+    let of-z = of-w .before .before in
+    let of-y = of-z .before .before in
+    let of-x = of-y .before .before in
+    let start = of-x .before .before .before in (
+      (start .pre .0, omega arith),
+      tables (start .pre .0 .axes) (start .pre .1)
+          (of-x .powers .ensures) (of-y .powers2 .ensures) (of-z .powers3 .ensures) (of-w .powers4 .ensures),
+    )
 
 returns : tie.Need-returns
 unfolding termCount
-returns c = raw-sum-is _ _ _ (vertex-short _ _) (c .running-sum .ensures)
+returns c =
+    let of-w = c .before .before .before .before .before in
+    let of-z = of-w .before .before in
+    let of-y = of-z .before .before in
+    let of-x = of-y .before .before in
+    let start = of-x .before .before .before in
+    raw-sum-at _ _ (vertex-short _ _)
+    (tabled-is (start .pre .0 .axes) (start .pre .1)
+    (of-x .powers .ensures) (of-y .powers2 .ensures) (of-z .powers3 .ensures) (of-w .powers4 .ensures))
+    (c .sum-of-last .ensures)
 
 pub raw-sum-spec : {M : Type 1} → statement M
-raw-sum-spec = tie.close (tie.spec running-sum-requires returns)
+raw-sum-spec =
+    tie.close (tie.spec powers-requires powers-requires-2 powers-requires-3 powers-requires-4 sum-of-last-requires returns)
