@@ -1,8 +1,8 @@
 -- The order of the terms cannot matter: over any list of terms within the limits and any vertex that a box may have, every permutation has the
 -- same sum, and no partial sum of any of them leaves 64 bits. Permutations are mathlib's.
-use mathlib.Core.Path.{_≡_, refl, sym, ap, ap₂, subst, _∙_}
+use mathlib.Core.Path.{_≡_, refl, sym, ap, ap₂, _∙_}
 use mathlib.Core.Bool.{Bool, true, _&&_, and-assoc, and-comm, Bool-set}
-use mathlib.Core.List.{List, [], _∷_, Perm, List·Permᴰ, List·Permᴰ·nil, List·Permᴰ·cons, List·Permᴰ·swap, List·Permᴰ·trans}
+use mathlib.Core.List.{List, [], _∷_, map, Perm, List·Permᴰ, List·Permᴰ·nil, List·Permᴰ·cons, List·Permᴰ·swap, List·Permᴰ·trans}
 use mathlib.Core.Logic.{∥∥₁-elim}
 use Prim.Native.Nat.{ℕ, suc, zero, _+_, _*_, _^_, _-_, _≤_}
 use native.Mathlib.Omega.{arith}
@@ -11,8 +11,6 @@ use lib.IntN.{ℤ, pos, natAbs, ℤ-set}
 use lib.ListN.{length, take, replicate}
 use lib.Dec.{leb, lit≤, lit<}
 use lib.Pow.{pow-add}
-use mir.Syntax.{w64}
-use mir.Val.{SFits}
 use borrow.Author.Tests.{leb-true}
 use Rattle.exact.specs.Int.{_⊕_, _⊗_, power, 0ℤ}
 use Rattle.exact.specs.Size.{Size}
@@ -24,12 +22,13 @@ use Rattle.curves.specs.Step.{every}
 use Rattle.paper.specs.Limits.{coordinateLimit, termLimit, coefficientLimit, degreeLimit}
 use Rattle.paper.specs.RunningSum.{Term, powersProduct, valueAt, addTerms, sumInOrder, partialSum, exponentSum, termWithin, termsWithin, vertexWithin}
 use Rattle.paper.specs.RunningSum.{monomialLimit, termSize, partialSumLimit}
+use Rattle.paper.specs.AnyOrder.{AnyOrder}
 use Rattle.paper.proofs.TermLimit.{term-limit-most}
 
 -- ---- the sum of a list
 
 -- terms added to a sum: the sum, and the sum of the terms
-pub sum-added : (v : Vertex) (s : ℤ) (ts : List Term) → addTerms v s ts ≡ s ⊕ sumInOrder v ts
+sum-added : (v : Vertex) (s : ℤ) (ts : List Term) → addTerms v s ts ≡ s ⊕ sumInOrder v ts
 unfolding addTerms sumInOrder
 sum-added v s [] = sym (add-zero s)
 sum-added v s (t ∷ ts) =
@@ -90,14 +89,14 @@ length-derived (List·Permᴰ·cons e d) = ap suc (length-derived d)
 length-derived (List·Permᴰ·swap e f) = refl
 length-derived (List·Permᴰ·trans d e) = length-derived e ∙ length-derived d
 
-pub within-any-order : (n : ℕ) {ts us : List Term} → Perm ts us → termsWithin n us ≡ termsWithin n ts
+within-any-order : (n : ℕ) {ts us : List Term} → Perm ts us → termsWithin n us ≡ termsWithin n ts
 unfolding termsWithin
 within-any-order n p =
     ∥∥₁-elim p (Bool-set _ _) (λ d. rw (length-derived d, every-derived termWithin d))
 
 -- ---- the size of a term
 
-pub product-size : (es : List ℕ) (v : Vertex) → vertexWithin v ≡ true → Size (coordinateLimit ^ exponentSum es) (powersProduct es v)
+product-size : (es : List ℕ) (v : Vertex) → vertexWithin v ≡ true → Size (coordinateLimit ^ exponentSum es) (powersProduct es v)
 unfolding exponentSum powersProduct vertexWithin every
 product-size [] v h = rw pow-zero (size-pos 1)
 product-size (e ∷ es) [] h = size-weaken (size-pos 1) (unfold coordinateLimit in one-le-pow (e + exponentSum es) coordinateLimit (lit< tt))
@@ -107,9 +106,9 @@ product-size (e ∷ es) (x ∷ v) h =
     let one : Size coordinateLimit x = record { size = leb-true _ _ (and-left near rest h) } in
     rw pow-add (size-mul (size-power one e) (product-size es v (and-right near rest h)))
 
-pub term-size : (v : Vertex) (t : Term) → vertexWithin v ≡ true → termWithin t ≡ true → Size termSize (valueAt v t)
+term-bound : (v : Vertex) (t : Term) → vertexWithin v ≡ true → termWithin t ≡ true → Size termSize (valueAt v t)
 unfolding termWithin valueAt termSize monomialLimit coordinateLimit
-term-size v t near h =
+term-bound v t near h =
     let small : Bool = leb (natAbs (t .coefficient)) coefficientLimit in
     let low : Bool = leb (exponentSum (t .exponents)) degreeLimit in
     let degree = leb-true _ _ (and-right small low h) in
@@ -117,11 +116,11 @@ term-size v t near h =
 
 -- ---- the size of a sum
 
-pub sum-size : (v : Vertex) (ts : List Term) → vertexWithin v ≡ true → every termWithin ts ≡ true → Size (length ts * termSize) (sumInOrder v ts)
+sum-size : (v : Vertex) (ts : List Term) → vertexWithin v ≡ true → every termWithin ts ≡ true → Size (length ts * termSize) (sumInOrder v ts)
 unfolding every
 sum-size v [] near h = rw (sum-none v) (record { size = omega arith })
 sum-size v (t ∷ ts) near h =
-    let head = term-size v t near (and-left (termWithin t) (every termWithin ts) h) in
+    let head = term-bound v t near (and-left (termWithin t) (every termWithin ts) h) in
     let tail = sum-size v ts near (and-right (termWithin t) (every termWithin ts) h) in
     rw (sum-first v t ts) (size-weaken (size-add head tail) (omega arith))
 
@@ -130,7 +129,9 @@ take-short zero l = omega arith
 take-short (suc k) [] = omega arith
 take-short (suc k) (x ∷ l) = let rest = take-short k l in omega (arith, rest)
 
-pub partial-size : (n : ℕ) (v : Vertex) (ts : List Term) → vertexWithin v ≡ true → termsWithin n ts ≡ true → (k : ℕ) → Size (partialSumLimit n) (partialSum v ts k)
+pub partial-size :
+    (n : ℕ) (v : Vertex) (ts : List Term) → vertexWithin v ≡ true → termsWithin n ts ≡ true → (k : ℕ)
+    → Size (partialSumLimit n) (partialSum v ts k)
 unfolding termsWithin partialSum partialSumLimit
 partial-size n v ts near h k =
     let short : Bool = leb (length ts) (termLimit n) in
@@ -141,18 +142,10 @@ partial-size n v ts near h k =
 
 -- ---- inside 64 bits
 
--- the bound in numbers
-pub limit-in-dimension-2 : partialSumLimit 2 ≡ 15 * 2 ^ 52
+-- the bound in numbers, for n = 2, 3 and 4
+pub limit-numbers : map partialSumLimit (2 ∷ 3 ∷ 4 ∷ []) ≡ 15 * 2 ^ 52 ∷ 35 * 2 ^ 52 ∷ 70 * 2 ^ 52 ∷ []
 unfolding partialSumLimit termLimit termSize monomialLimit coefficientLimit coordinateLimit degreeLimit
-limit-in-dimension-2 = refl
-
-pub limit-in-dimension-3 : partialSumLimit 3 ≡ 35 * 2 ^ 52
-unfolding partialSumLimit termLimit termSize monomialLimit coefficientLimit coordinateLimit degreeLimit
-limit-in-dimension-3 = refl
-
-pub limit-in-dimension-4 : partialSumLimit 4 ≡ 70 * 2 ^ 52
-unfolding partialSumLimit termLimit termSize monomialLimit coefficientLimit coordinateLimit degreeLimit
-limit-in-dimension-4 = refl
+limit-numbers = refl
 
 -- in every dimension
 pub limit-most : (n : ℕ) → partialSumLimit n ≤ 70 * termSize
@@ -190,12 +183,6 @@ unfolding partialSumLimit
 limit-reached n w = largest-sum (termLimit n) w
 
 -- ---- the theorem
-
--- what holds of a list of terms in every order
-pub record AnyOrder (n : ℕ) (v : Vertex) (ts : List Term) : Type 0 where
-  pub same-sum : (us : List Term) → Perm ts us → sumInOrder v us ≡ sumInOrder v ts
-  pub within-limit : (us : List Term) → Perm ts us → (k : ℕ) → Size (partialSumLimit n) (partialSum v us k)
-  pub within-64-bits : (us : List Term) → Perm ts us → (k : ℕ) → SFits w64 (partialSum v us k)
 
 pub order-cannot-matter : (n : ℕ) (v : Vertex) (ts : List Term) → vertexWithin v ≡ true → termsWithin n ts ≡ true → AnyOrder n v ts
 order-cannot-matter n v ts near h =

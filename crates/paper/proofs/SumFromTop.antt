@@ -2,17 +2,15 @@
 -- the polynomial, and so does every other order, at every vertex of the box.
 use mathlib.Core.Path.{_≡_, refl, sym, ap, ap₂, subst, _∙_}
 use mathlib.Core.Bool.{Bool, true, _&&_}
-use mathlib.Core.List.{List, [], _∷_, _++_, map, reverse, reverse-append, reverse-perm, Perm, Perm·symm}
+use mathlib.Core.List.{List, [], _∷_, _++_, map, reverse, reverse-append, reverse-perm, Perm·symm}
 use Prim.Native.Nat.{ℕ, suc, zero, _+_, _-_, _≤_, _<_}
 use native.Mathlib.Omega.{arith}
 use native.Mathlib.Nat.{le-trans}
-use lib.IntN.{ℤ, natAbs}
+use lib.IntN.{ℤ}
 use lib.ListN.{length, take, drop, take-append-drop, length-drop, length-reverse}
-use lib.Dec.{leb, lit<}
-use lib.Seq.{take-at, take-all}
+use lib.Dec.{lit<}
+use lib.Seq.{take-at}
 use lib.Signed.{leZ}
-use mir.Syntax.{w64}
-use mir.Val.{SFits}
 use borrow.Author.Tests.{ltb-true, leb-true, le-leb, not-false}
 use Rattle.exact.specs.Int.{_⊕_, _⊗_, power}
 use Rattle.exact.specs.Size.{Size}
@@ -22,18 +20,19 @@ use Rattle.exact.proofs.Ring.{add-comm}
 use Rattle.exact.proofs.CountFrom.{length-map-countFrom}
 use Rattle.curves.specs.Grid.{Vertex}
 use Rattle.curves.specs.Step.{every}
-use Rattle.paper.specs.Limits.{coordinateLimit, termLimit, coefficientLimit, degreeLimit}
+use Rattle.paper.specs.Limits.{coordinateLimit, termLimit, degreeLimit}
 use Rattle.paper.specs.Job.{dimension, body, termCount, coefficientOf, exponentOf, degree, lowEnd, highEnd, boxOk, polynomialOk, openRefusal}
 use Rattle.paper.specs.Values.{monomial, termValue, sumFrom, rawSum, insideFrom, fieldFrom, fieldOf}
 use Rattle.paper.specs.RunningSum.{Term, powersProduct, valueAt, sumInOrder, partialSum, exponentSum, termWithin, termsWithin, vertexWithin, partialSumLimit}
 use Rattle.paper.specs.RunningSum.{termOf, termsOf, runningSum, sumOfLast, summedBody, summedVertex, runningSumRefusal, runningSummed}
+use Rattle.paper.specs.AnyOrder.{AnyOrder, BodyAnyOrder}
 use Rattle.paper.specs.Operations.{answered}
 use Rattle.paper.proofs.Tests.{every-all}
 use Rattle.paper.proofs.Terms.{polynomial-term, box-axis, between-size}
 use Rattle.paper.proofs.Refusals.{not-refused, neither-refused, unless-answered}
-use Rattle.paper.proofs.Opens.{Opens, opens, opens-range}
+use Rattle.paper.proofs.Opens.{opens, opens-range}
 use Rattle.paper.proofs.Bodies.{terms-high}
-use Rattle.paper.proofs.AnyOrder.{sum-none, sum-first, any-order, AnyOrder, order-cannot-matter}
+use Rattle.paper.proofs.AnyOrder.{sum-none, sum-first, any-order, order-cannot-matter}
 
 -- ---- any list of terms
 
@@ -186,27 +185,17 @@ module _ (n : ℕ) (b : List ℕ) (v : Vertex) (d : n ≤ 4) (ok : polynomialOk 
       subst (Size (partialSumLimit n)) (running-sum-is-last b v k h l)
       (body-any-order .within-limit (reverse (termsOf b)) (Perm·symm (reverse-perm (termsOf b))) k)
 
--- what holds of polynomial k of a job at a vertex, whichever way its terms are ordered
-pub record OrderedSums (s : List ℕ) (k : ℕ) (v : Vertex) (us : List Term) : Type 0 where
-  pub sum : sumInOrder v us ≡ rawSum (body s k) v
-  pub within-limit : (m : ℕ) → Size (partialSumLimit (dimension s)) (partialSum v us m)
-  pub within-64-bits : (m : ℕ) → SFits w64 (partialSum v us m)
-
--- of every job that opens, each of its polynomials and each vertex of its box
+-- every order of the terms of each polynomial of a job that opens, at each vertex of its box
 pub job-any-order :
     (s : List ℕ) → openRefusal s ≡ 0 → (k : ℕ) → 0 < k → k < dimension s → (v : Vertex) → length v ≡ dimension s → fieldOf s .inBox v ≡ true
-    → (us : List Term) → Perm (termsOf (body s k)) us → OrderedSums s k v us
+    → BodyAnyOrder s k v
 unfolding fieldOf fieldFrom
-job-any-order s e k p u v h inside us perm =
+job-any-order s e k p u v h inside =
     let o = opens s e in
     let four : length v ≤ 4 = omega (arith, opens-range o .high) in
     let near = inside-within (dimension s) (body s 0) v (o .box) (omega arith) inside in
     let any = body-any-order (dimension s) (body s k) v (opens-range o .high) (o .polynomial k p u) (terms-high o k p u) near in
-    record {
-      sum = any .same-sum us perm ∙ first-to-last (body s k) v four;
-      within-limit = any .within-limit us perm;
-      within-64-bits = any .within-64-bits us perm;
-    }
+    record { any-order = any; sum = λ us q. any .same-sum us q ∙ first-to-last (body s k) v four }
 
 -- ---- the operation
 

@@ -11,3 +11,4 @@ pub mod Listing
 pub mod Demand3
 pub mod Bias
 pub mod RunningSum
+pub mod AnyOrder

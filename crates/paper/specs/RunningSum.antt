@@ -51,6 +51,7 @@ unfoldable pub exponentSum : List ℕ → ℕ
 exponentSum [] = 0
 exponentSum (e ∷ es) = e + exponentSum es
 
+-- coefficient and degree are within the limits; that a coefficient is not 0, and no axis above n is named, is not asked
 unfoldable pub termWithin : Term → Bool
 termWithin t = leb (natAbs (t .coefficient)) coefficientLimit && leb (exponentSum (t .exponents)) degreeLimit
 

@@ -1,11 +1,11 @@
 -- What each return of the running sum says, as the definition's answer.
-use mathlib.Core.Path.{_≡_, refl, sym, ap, ap₂, subst, _∙_}
-use mathlib.Core.Bool.{Bool, true, false, not}
+use mathlib.Core.Path.{_≡_, sym, ap, ap₂, subst, _∙_}
+use mathlib.Core.Bool.{true, false}
 use mathlib.Core.List.{List}
 use Prim.Native.Nat.{ℕ, _+_, _-_, _≤_, _<_}
 use native.Mathlib.Omega.{arith}
 use lib.IntN.{ℤ}
-use lib.Dec.{lit<, leb, ltb}
+use lib.Dec.{leb, ltb}
 use borrow.Author.Tests.{lt-ltb, le-ltb, le-leb, lt-leb}
 use Rattle.exact.specs.Size.{Is}
 use Rattle.exact.proofs.Bits.{back, holds-call}
@@ -13,7 +13,7 @@ use Rattle.paper.specs.Job.{dimension, body, termCount, openRefusal, refuseIf}
 use Rattle.paper.specs.Values.{insideFrom, fieldFrom, fieldOf}
 use Rattle.paper.specs.Operations.{refused, answered, unless, firstRefusal}
 use Rattle.paper.specs.RunningSum.{partialSumLimit, runningSum, summedBody, summedVertex, runningSumRefusal, runningSummed}
-use Rattle.paper.proofs.Refusals.{refuse-here, refuse-later, first-refuses, first-passes, unless-refused, unless-answered}
+use Rattle.paper.proofs.Refusals.{first-refuses, unless-refused}
 use Rattle.paper.proofs.AnyOrder.{limit-word}
 use Rattle.places.specs.declared.Vertex.{Vertex}
 use Rattle.places.specs.Held.{vertexAs}

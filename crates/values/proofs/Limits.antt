@@ -1,7 +1,7 @@
 -- The numbers behind the names of the limits: the constants of the code are those of the paper, and every product and sum that a job's limits
 -- allow stays inside 64 bits.
 use mathlib.Core.Path.{_≡_, refl}
-use Prim.Native.Nat.{ℕ, _+_, _*_, _^_, _-_, _≤_}
+use Prim.Native.Nat.{ℕ, _+_, _^_, _-_, _≤_}
 use native.Mathlib.Omega.{arith}
 use native.Mathlib.Nat.{le-trans}
 use lib.Dec.{lit≤}

@@ -9,7 +9,7 @@ use lib.ListN.{length}
 use mir.Syntax.{w64}
 use mir.Val.{SFits}
 use Rattle.exact.specs.Int.{_⊕_}
-use Rattle.exact.specs.Size.{Size, Is}
+use Rattle.exact.specs.Size.{Is}
 use Rattle.exact.proofs.SizeLaws.{size-weaken}
 use Rattle.exact.proofs.Bits.{holds-call, back, fits-add, holds-add}
 use Rattle.paper.specs.Job.{termCount}
@@ -55,7 +55,8 @@ module _ {n : ℕ} {b : List ℕ} (p : Polynomial n b) {v : List ℤ} (x : BoxVe
 
 -- a running sum that is returned from its bits, at another name for the vertex
 pub running-at :
-    (n : ℕ) (b : List ℕ) {u v : List ℤ} (k : ℕ) {r : ℤ} → u ≡ v → Is (partialSumLimit n) (runningSum b u k) r → Is (partialSumLimit n) (runningSum b v k) (back r)
+    (n : ℕ) (b : List ℕ) {u v : List ℤ} (k : ℕ) {r : ℤ} → u ≡ v → Is (partialSumLimit n) (runningSum b u k) r
+    → Is (partialSumLimit n) (runningSum b v k) (back r)
 running-at n b k e i = rw (← e) (holds-call i (limit-word n))
 
 -- the running sum after all terms, so returned, is the sum

@@ -1,5 +1,4 @@
 -- `sums::running_sum` meets its contract: Open's refusal, 12, 12 or 9, or the running sum.
-use Prim.Native.Nat.{_-_, _+_, _≤_, _<_}
 use native.Mathlib.Omega.{arith}
 use borrow.Author.Needs.{needs}
 use borrow.Author.Tests.{not-true, not-false}
