@@ -1,4 +1,4 @@
-// The exact sum of a polynomial at a vertex, term by term; the powers of the coordinates are taken from tables.
+// The exact sum of a polynomial at a vertex, from its last term to its first; the powers of the coordinates are taken from tables.
 ghost use Prim.Native.Nat.{_^_, _≤_, _<_};
 ghost use Rattle.exact.specs.Size.{Size, Is};
 ghost use Rattle.paper.specs.Limits.{coordinateLimit};
