@@ -11,7 +11,7 @@ use lib.ListN.{length, take, drop, take-append-drop, length-drop, length-reverse
 use lib.Dec.{lit<}
 use lib.Seq.{take-at}
 use lib.Signed.{leZ}
-use borrow.Author.Tests.{ltb-true, leb-true, le-leb, not-false}
+use borrow.Author.Tests.{leb-true, le-leb, not-false}
 use Rattle.exact.specs.Int.{_⊕_, _⊗_, power}
 use Rattle.exact.specs.Size.{Size}
 use Rattle.exact.specs.Crossed.{countFrom}
@@ -60,7 +60,7 @@ product-from b i a (suc m) [] h = refl
 product-from b i a zero (x ∷ v) h = absurd (omega arith)
 product-from b i a (suc m) (x ∷ v) h = ap (λ y. power x (exponentOf b i a) ⊗ y) (product-from b i (suc a) m v (omega arith))
 
-pub term-value-is : (b : List ℕ) (v : Vertex) (i : ℕ) → length v ≤ 4 → valueAt v (termOf b i) ≡ termValue b v i
+term-value-is : (b : List ℕ) (v : Vertex) (i : ℕ) → length v ≤ 4 → valueAt v (termOf b i) ≡ termValue b v i
 unfolding valueAt termOf termValue
 term-value-is b v i h = ap (λ y. coefficientOf b i ⊗ y) (product-from b i 0 4 v h)
 
@@ -103,7 +103,6 @@ pub running-sum-is-last : (b : List ℕ) (v : Vertex) (k : ℕ) → length v ≤
 unfolding runningSum sumOfLast
 running-sum-is-last b v k h l =
     let m : ℕ = termCount b - k in
-    let from : 0 + m ≡ m = omega arith in
     let count : termCount b - m ≡ k = omega arith in
     last-of-any v (termsOf b) k (subst (λ (c : ℕ). k ≤ c) (sym (terms-counted b)) l)
     ∙ ap (λ (c : ℕ). sumInOrder v (drop (c - k) (termsOf b))) (terms-counted b)
@@ -166,10 +165,9 @@ inside-within n b v o h = from 0 v (omega arith)
         let upper : Bool = leZ x (highEnd b a) in
         let rest = and-right lower (upper && insideFrom b (suc a) v) h in
         let ends = box-axis n b a o (omega arith) in
-        let size =
-        between-size coordinateLimit (lowEnd b a) (highEnd b a) x
-        (ends .low) (and-left lower (upper && insideFrom b (suc a) v) h) (and-left upper (insideFrom b (suc a) v) rest) (ends .high)
-        in
+        let from-low = and-left lower (upper && insideFrom b (suc a) v) h in
+        let to-high = and-left upper (insideFrom b (suc a) v) rest in
+        let size = between-size coordinateLimit (lowEnd b a) (highEnd b a) x (ends .low) from-low to-high (ends .high) in
         and-true (le-leb _ _ size) (from (suc a) v (omega arith) (and-right upper (insideFrom b (suc a) v) rest))
 
 -- ---- every order of a polynomial's terms
@@ -205,21 +203,17 @@ take-most (suc n) [] = omega arith
 take-most (suc n) (x ∷ l) = let rest = take-most n l in omega (arith, rest)
 
 -- what holds if nothing is refused
-pub record SumGiven (s : List ℕ) (p : ℕ) (v : List ℤ) (k : ℕ) : Type 0 where
-  pub opens : openRefusal s ≡ 0
-  pub polynomial : p < dimension s - 1
-  pub terms : k ≤ termCount (summedBody s p)
-  pub short : length (summedVertex s v) ≤ 4
+record SumGiven (s : List ℕ) (p : ℕ) (v : List ℤ) (k : ℕ) : Type 0 where
+  terms : k ≤ termCount (summedBody s p)
+  short : length (summedVertex s v) ≤ 4
 
-pub sum-given : (s : List ℕ) (p : ℕ) (v : List ℤ) (k : ℕ) → runningSumRefusal s p v k ≡ 0 → SumGiven s p v k
+sum-given : (s : List ℕ) (p : ℕ) (v : List ℤ) (k : ℕ) → runningSumRefusal s p v k ≡ 0 → SumGiven s p v k
 unfolding runningSumRefusal summedVertex
 sum-given s p v k h =
     let first = neither-refused (openRefusal s) _ h in
     let index = not-refused _ 12 _ (lit< tt) (first .next) in
     let count = not-refused _ 12 _ (lit< tt) (index .next) in
     record {
-      opens = first .first;
-      polynomial = ltb-true _ _ (not-false _ (index .test));
       terms = leb-true _ _ (not-false _ (count .test));
       short = le-trans (take-most (dimension s) v) (opens-range (opens s (first .first)) .high);
     }
