@@ -19,24 +19,35 @@ static int print_polynomial(const uint8_t *job, size_t length, uint64_t polynomi
     return 0;
 }
 
+static int usage(void) {
+    fprintf(stderr, "running_sums JOBFILE X Y .., one whole number for each axis of the job\n");
+    return 2;
+}
+
 int main(int argc, char **argv) {
     static uint8_t job[2048];
     int64_t v[4] = {0, 0, 0, 0};
-    FILE *f = argc > 1 && argc < 7 ? fopen(argv[1], "rb") : NULL;
-    if (!f) {
-        fprintf(stderr, "running_sums JOBFILE X Y ..\n");
-        return 1;
-    }
+    FILE *f = argc > 1 ? fopen(argv[1], "rb") : NULL;
+    if (!f)
+        return usage();
     size_t length = fread(job, 1, sizeof job, f);
     fclose(f);
-    for (int i = 2; i < argc; i++)
-        v[i - 2] = strtoll(argv[i], NULL, 10);
     OpenAnswer o = gethwapiko_open(job, length);
+    if (o.refusal) {
+        printf("refused %llu\n", (unsigned long long)o.refusal);
+        return 1;
+    }
+    if (argc != 2 + (int)o.n)
+        return usage();
+    for (int i = 2; i < argc; i++) {
+        char *end;
+        v[i - 2] = strtoll(argv[i], &end, 10);
+        if (end == argv[i] || *end)
+            return usage();
+    }
     uint64_t terms[3] = {o.terms1, o.terms2, o.terms3};
     for (uint64_t p = 0; p + 1 < o.n; p++)
         if (print_polynomial(job, length, p, terms[p], v))
             return 1;
-    if (o.refusal)
-        printf("refused %llu\n", (unsigned long long)o.refusal);
-    return o.refusal != 0;
+    return 0;
 }

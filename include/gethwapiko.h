@@ -116,9 +116,10 @@ TraceAnswer gethwapiko_trace(const uint8_t *job, size_t job_length, uint8_t *buf
  * if `closed` is not 0. Refusals 13, 12, then 13, 9, 10, 11 for place k; a close looks at no place. */
 PenAnswer gethwapiko_pen(const uint8_t *job, size_t job_length, const uint8_t *places, size_t places_length, uint8_t closed, uint64_t k);
 
-/* Running sum: the polynomial with this number, 0 to n - 2, at the vertex x y z w, summed from its last term to its first, after `terms`
- * terms: the exact sum of its last `terms` terms, readable or not, without the bias. All terms give the polynomial's sum, 0 terms give 0.
- * Coordinates above n are not read. Refusals 12 (no such polynomial, or it has fewer terms), then 9. */
+/* Running sum: a polynomial at the vertex x y z w, summed from its last term to its first, after `terms` terms: the exact sum of its last
+ * `terms` terms, readable or not, without the bias. All terms give the polynomial's sum, 0 terms give 0. Polynomials are numbered from 0 to
+ * n - 2: polynomial 0 is that of terms1 and of body 1. The coordinates on axes above n are not read.
+ * Refusals 12 (no such polynomial, or it has fewer terms), then 9. */
 SumAnswer gethwapiko_running_sum(const uint8_t *job, size_t job_length, uint64_t polynomial, int64_t x, int64_t y, int64_t z, int64_t w,
                                  uint64_t terms);
 

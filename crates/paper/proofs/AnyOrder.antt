@@ -4,11 +4,12 @@ use mathlib.Core.Path.{_≡_, refl, sym, ap, ap₂, _∙_}
 use mathlib.Core.Bool.{Bool, true, _&&_, and-assoc, and-comm, Bool-set}
 use mathlib.Core.List.{List, [], _∷_, map, Perm, List·Permᴰ, List·Permᴰ·nil, List·Permᴰ·cons, List·Permᴰ·swap, List·Permᴰ·trans}
 use mathlib.Core.Logic.{∥∥₁-elim}
-use Prim.Native.Nat.{ℕ, suc, zero, _+_, _*_, _^_, _-_, _≤_}
+use Prim.Native.Nat.{ℕ, suc, zero, _+_, _*_, _^_, _-_, _≤_, _<_}
 use native.Mathlib.Omega.{arith}
+use native.Mathlib.Bridge.{le-prop}
 use native.Mathlib.Nat.{zero-mul, le-trans, pow-zero, one-le-pow, pow-le-pow-right, mul-le-mul, le-refl}
 use lib.IntN.{ℤ, pos, natAbs, ℤ-set}
-use lib.ListN.{length, take, replicate}
+use lib.ListN.{length, take, replicate, length-replicate}
 use lib.Dec.{leb, lit≤, lit<}
 use lib.Pow.{pow-add}
 use borrow.Author.Tests.{leb-true}
@@ -20,9 +21,10 @@ use Rattle.exact.proofs.SizeLaws.{size-pos, size-weaken, size-add, size-mul, si
 use Rattle.curves.specs.Grid.{Vertex}
 use Rattle.curves.specs.Step.{every}
 use Rattle.paper.specs.Limits.{coordinateLimit, termLimit, coefficientLimit, degreeLimit}
-use Rattle.paper.specs.RunningSum.{Term, powersProduct, valueAt, addTerms, sumInOrder, partialSum, exponentSum, termWithin, termsWithin, vertexWithin}
+use Rattle.paper.specs.RunningSum.{Term, powersProduct, valueAt, addTerms, sumInOrder, partialSum, exponentSum, termWithin, TermsWithin, vertexWithin}
 use Rattle.paper.specs.RunningSum.{monomialLimit, termSize, partialSumLimit}
-use Rattle.paper.specs.AnyOrder.{AnyOrder}
+use Rattle.paper.specs.AnyOrder.{AnyOrder, ReachesLimit}
+use Rattle.paper.proofs.Taken.{take-short}
 use Rattle.paper.proofs.TermLimit.{term-limit-most}
 
 -- ---- the sum of a list
@@ -89,10 +91,12 @@ length-derived (List·Permᴰ·cons e d) = ap suc (length-derived d)
 length-derived (List·Permᴰ·swap e f) = refl
 length-derived (List·Permᴰ·trans d e) = length-derived e ∙ length-derived d
 
-within-any-order : (n : ℕ) {ts us : List Term} → Perm ts us → termsWithin n us ≡ termsWithin n ts
-unfolding termsWithin
-within-any-order n p =
-    ∥∥₁-elim p (Bool-set _ _) (λ d. rw (length-derived d, every-derived termWithin d))
+within-any-order : (n : ℕ) {ts us : List Term} → Perm ts us → TermsWithin n ts → TermsWithin n us
+within-any-order n p h =
+    record {
+      count = ∥∥₁-elim p le-prop (λ d. rw (length-derived d) (h .count));
+      each = ∥∥₁-elim p (Bool-set _ _) (every-derived termWithin) ∙ h .each;
+    }
 
 -- ---- the size of a term
 
@@ -124,21 +128,12 @@ sum-size v (t ∷ ts) near h =
     let tail = sum-size v ts near (and-right (termWithin t) (every termWithin ts) h) in
     rw (sum-first v t ts) (size-weaken (size-add head tail) (omega arith))
 
-pub take-short : {A : Type 0} (k : ℕ) (l : List A) → length (take k l) ≤ length l
-take-short zero l = omega arith
-take-short (suc k) [] = omega arith
-take-short (suc k) (x ∷ l) = let rest = take-short k l in omega (arith, rest)
-
 pub partial-size :
-    (n : ℕ) (v : Vertex) (ts : List Term) → vertexWithin v ≡ true → termsWithin n ts ≡ true → (k : ℕ)
-    → Size (partialSumLimit n) (partialSum v ts k)
-unfolding termsWithin partialSum partialSumLimit
+    (n : ℕ) (v : Vertex) (ts : List Term) → vertexWithin v ≡ true → TermsWithin n ts → (k : ℕ) → Size (partialSumLimit n) (partialSum v ts k)
+unfolding partialSum partialSumLimit
 partial-size n v ts near h k =
-    let short : Bool = leb (length ts) (termLimit n) in
-    let count : length (take k ts) ≤ termLimit n = le-trans (take-short k ts) (leb-true _ _ (and-left short (every termWithin ts) h)) in
-    size-weaken
-    (sum-size v (take k ts) near (every-take termWithin k ts (and-right short (every termWithin ts) h)))
-    (mul-le-mul count (le-refl termSize))
+    let count : length (take k ts) ≤ termLimit n = omega (arith, take-short k ts, h .count) in
+    size-weaken (sum-size v (take k ts) near (every-take termWithin k ts (h .each))) (mul-le-mul count (le-refl termSize))
 
 -- ---- inside 64 bits
 
@@ -166,7 +161,16 @@ largest-value : (w : Vertex) → valueAt (pos coordinateLimit ∷ w) largestTerm
 unfolding largestTerm valueAt powersProduct power _⊗_ termSize monomialLimit coefficientLimit coordinateLimit degreeLimit
 largest-value w = refl
 
--- m such terms: as many as a body may hold have a sum of just the bound, and one more leaves it
+term-some : 0 < termSize
+unfolding termSize monomialLimit coefficientLimit coordinateLimit degreeLimit
+term-some = lit< tt
+
+largest-each : (m : ℕ) → every termWithin (replicate m largestTerm) ≡ true
+unfolding every termWithin largestTerm exponentSum coefficientLimit degreeLimit
+largest-each zero = refl
+largest-each (suc m) = largest-each m
+
+-- m such terms
 pub largest-sum : (m : ℕ) (w : Vertex) → sumInOrder (pos coordinateLimit ∷ w) (replicate m largestTerm) ≡ pos (m * termSize)
 largest-sum zero w = sum-none (pos coordinateLimit ∷ w) ∙ ap pos (sym (zero-mul termSize))
 largest-sum (suc m) w =
@@ -178,13 +182,28 @@ largest-sum (suc m) w =
     next : (m k : ℕ) → k + m * k ≡ suc m * k
     next m k = omega arith
 
-pub limit-reached : (n : ℕ) (w : Vertex) → sumInOrder (pos coordinateLimit ∷ w) (replicate (termLimit n) largestTerm) ≡ pos (partialSumLimit n)
+-- as many as a body may hold, at a vertex of a box
+pub limit-reached : (n : ℕ) (w : Vertex) → vertexWithin w ≡ true → ReachesLimit n (pos coordinateLimit ∷ w) (replicate (termLimit n) largestTerm)
+unfolding partialSumLimit vertexWithin every coordinateLimit
+limit-reached n w h =
+    let count : length (replicate (termLimit n) largestTerm) ≡ termLimit n = length-replicate (termLimit n) largestTerm in
+    record {
+      terms = record { count = omega (arith, count); each = largest-each (termLimit n) };
+      vertex = h;
+      sum = largest-sum (termLimit n) w;
+    }
+
+-- one more
+pub limit-left : (n : ℕ) (w : Vertex) → partialSumLimit n < natAbs (sumInOrder (pos coordinateLimit ∷ w) (replicate (termLimit n + 1) largestTerm))
 unfolding partialSumLimit
-limit-reached n w = largest-sum (termLimit n) w
+limit-left n w = rw (largest-sum (termLimit n + 1) w) (more (termLimit n) termSize term-some)
+  where
+    more : (m k : ℕ) → 0 < k → m * k < (m + 1) * k
+    more m k h = omega (arith, h)
 
 -- ---- the theorem
 
-pub order-cannot-matter : (n : ℕ) (v : Vertex) (ts : List Term) → vertexWithin v ≡ true → termsWithin n ts ≡ true → AnyOrder n v ts
+pub order-cannot-matter : (n : ℕ) (v : Vertex) (ts : List Term) → vertexWithin v ≡ true → TermsWithin n ts → AnyOrder n v ts
 order-cannot-matter n v ts near h =
     record {
       same-sum = λ us p. any-order v p;
@@ -193,4 +212,4 @@ order-cannot-matter n v ts near h =
     }
   where
     within : (us : List Term) → Perm ts us → (k : ℕ) → Size (partialSumLimit n) (partialSum v us k)
-    within us p = partial-size n v us near (within-any-order n p ∙ h)
+    within us p = partial-size n v us near (within-any-order n p h)

@@ -1,4 +1,4 @@
--- Theorems about the definitions of document 01, a file for each idea.
+-- Theorems about the definitions of document 01 and of the requests, a file for each idea.
 pub mod TextCodes
 pub mod Cases
 pub mod Cases4
@@ -11,6 +11,7 @@ pub mod Opens
 pub mod TermLimit
 pub mod Bodies
 pub mod Terms
+pub mod Taken
 pub mod AnyOrder
 pub mod SumFromTop
 pub mod ShortPlaces

@@ -23,11 +23,12 @@ use Rattle.curves.specs.Step.{every}
 use Rattle.paper.specs.Limits.{coordinateLimit, termLimit, degreeLimit}
 use Rattle.paper.specs.Job.{dimension, body, termCount, coefficientOf, exponentOf, degree, lowEnd, highEnd, boxOk, polynomialOk, openRefusal}
 use Rattle.paper.specs.Values.{monomial, termValue, sumFrom, rawSum, insideFrom, fieldFrom, fieldOf}
-use Rattle.paper.specs.RunningSum.{Term, powersProduct, valueAt, sumInOrder, partialSum, exponentSum, termWithin, termsWithin, vertexWithin, partialSumLimit}
+use Rattle.paper.specs.RunningSum.{Term, powersProduct, valueAt, sumInOrder, partialSum, exponentSum, termWithin, TermsWithin, vertexWithin, partialSumLimit}
 use Rattle.paper.specs.RunningSum.{termOf, termsOf, runningSum, sumOfLast, summedBody, summedVertex, runningSumRefusal, runningSummed}
 use Rattle.paper.specs.AnyOrder.{AnyOrder, BodyAnyOrder}
 use Rattle.paper.specs.Operations.{answered}
 use Rattle.paper.proofs.Tests.{every-all}
+use Rattle.paper.proofs.Taken.{take-most}
 use Rattle.paper.proofs.Terms.{polynomial-term, box-axis, between-size}
 use Rattle.paper.proofs.Refusals.{not-refused, neither-refused, unless-answered}
 use Rattle.paper.proofs.Opens.{opens, opens-range}
@@ -141,11 +142,13 @@ exponents-sum : (b : List ℕ) (i : ℕ) → exponentSum (termOf b i .exponents)
 unfolding exponentSum termOf degree countFrom
 exponents-sum b i = omega arith
 
-pub terms-within :
-    (n : ℕ) (b : List ℕ) → n ≤ 4 → polynomialOk n b ≡ true → termCount b ≤ termLimit n → termsWithin n (termsOf b) ≡ true
-unfolding termsWithin termsOf termOf
+pub terms-within : (n : ℕ) (b : List ℕ) → n ≤ 4 → polynomialOk n b ≡ true → termCount b ≤ termLimit n → TermsWithin n (termsOf b)
+unfolding termsOf termOf
 terms-within n b d h l =
-    and-true (le-leb _ _ (subst (λ (c : ℕ). c ≤ termLimit n) (sym (terms-counted b)) l)) (every-all termWithin (termOf b) (termCount b) each)
+    record {
+      count = subst (λ (c : ℕ). c ≤ termLimit n) (sym (terms-counted b)) l;
+      each = every-all termWithin (termOf b) (termCount b) each;
+    }
   where
     each : (i : ℕ) → i < termCount b → termWithin (termOf b i) ≡ true
     each i u =
@@ -196,11 +199,6 @@ job-any-order s e k p u v h inside =
     record { any-order = any; sum = λ us q. any .same-sum us q ∙ first-to-last (body s k) v four }
 
 -- ---- the operation
-
-take-most : {A : Type 0} (n : ℕ) (l : List A) → length (take n l) ≤ n
-take-most zero l = omega arith
-take-most (suc n) [] = omega arith
-take-most (suc n) (x ∷ l) = let rest = take-most n l in omega (arith, rest)
 
 -- what holds if nothing is refused
 record SumGiven (s : List ℕ) (p : ℕ) (v : List ℤ) (k : ℕ) : Type 0 where

@@ -1,5 +1,5 @@
--- Document 01, section by section. A reader who trusts the checker needs to believe these definitions, and those of the
--- crates exact and curves that they cite, and nothing else.
+-- Document 01, section by section, then what requests add. A reader who trusts the checker needs to believe these definitions,
+-- those of the crates exact and curves that they cite, and what README.md lists beside them.
 pub mod Bytes
 pub mod Limits
 pub mod Job

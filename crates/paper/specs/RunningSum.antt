@@ -1,7 +1,8 @@
 -- Summing from the top: request 2.8. First over any list of terms, then over the terms of a polynomial's body, which are summed from the last to
 -- the first, then the operation that shows the running sum.
-use Prim.Native.Nat.{ℕ, _+_, _*_, _-_, _^_}
-use mathlib.Core.Bool.{Bool, not, _&&_}
+use Prim.Native.Nat.{ℕ, _+_, _*_, _-_, _^_, _≤_}
+use mathlib.Core.Path.{_≡_}
+use mathlib.Core.Bool.{Bool, true, not, _&&_}
 use mathlib.Core.List.{List, [], _∷_, map, reverse}
 use lib.IntN.{ℤ, natAbs}
 use lib.ListN.{length, take}
@@ -56,10 +57,11 @@ unfoldable pub termWithin : Term → Bool
 termWithin t = leb (natAbs (t .coefficient)) coefficientLimit && leb (exponentSum (t .exponents)) degreeLimit
 
 -- no more terms than a body of dimension n may hold, each within the limits
-unfoldable pub termsWithin : ℕ → List Term → Bool
-termsWithin n ts = leb (length ts) (termLimit n) && every termWithin ts
+pub record TermsWithin (n : ℕ) (ts : List Term) : Type 0 where
+  pub count : length ts ≤ termLimit n
+  pub each : every termWithin ts ≡ true
 
--- a vertex that some box may have
+-- each coordinate is one that a box may have
 unfoldable pub vertexWithin : Vertex → Bool
 vertexWithin v = every (λ x. leb (natAbs x) coordinateLimit) v
 

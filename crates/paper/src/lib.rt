@@ -1,5 +1,5 @@
-// The public answers of the operations, as document 01 words them. What each case means, its number and its values, is
-// said in specs/Answers.antt; what an operation answers is defined in specs/Operations.antt.
+// The public answers of the operations, as document 01 and the requests word them. What each case means, its number and its values, is
+// said in specs/Answers.antt; what an operation answers is defined in specs/Operations.antt, Pen.antt and RunningSum.antt.
 
 // Open: the refusal's number, or the dimension and each polynomial's count of terms (0 for one that the dimension does not have).
 pub enum Opened {

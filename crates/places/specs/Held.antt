@@ -2,6 +2,7 @@
 use Prim.Native.Nat.{ℕ, _-_}
 use mathlib.Core.Bool.{cond}
 use mathlib.Core.List.{List, [], _∷_}
+use lib.IntN.{ℤ}
 use lib.Dec.{ltb}
 use lib.ListN.{take}
 use Rattle.exact.specs.Size.{Size}
@@ -14,9 +15,13 @@ use Rattle.places.specs.declared.HeldPlace.{HeldPlace}
 unfoldable pub counted : {A : Type 0} → A → ℕ → ℕ → A → A
 counted d n i x = cond (ltb i n) x d
 
--- the first n coordinates
+-- the four coordinates
+abbrev pub coordinates : Vertex → List ℤ
+coordinates v = v .x ∷ v .y ∷ v .z ∷ v .w ∷ []
+
+-- the first n of them
 unfoldable pub vertexAs : ℕ → Vertex → Grid.Vertex
-vertexAs n v = take n (v .x ∷ v .y ∷ v .z ∷ v .w ∷ [])
+vertexAs n v = take n (coordinates v)
 
 -- the first n − 1 masks
 unfoldable pub masksAs : ℕ → HeldPlace → List ℕ

@@ -16,9 +16,8 @@ use Rattle.paper.specs.RunningSum.{partialSumLimit, runningSum, summedBody, sum
 use Rattle.paper.proofs.Refusals.{first-refuses, unless-refused}
 use Rattle.paper.proofs.AnyOrder.{limit-word}
 use Rattle.places.specs.declared.Vertex.{Vertex}
-use Rattle.places.specs.Held.{vertexAs}
+use Rattle.places.specs.Held.{coordinates, vertexAs}
 use Rattle.job.specs.OpenJob.{JobOf}
-use Rattle.sums.specs.Given.{coordinates}
 
 module _ (s : List ℕ) (p : ℕ) (v : List ℤ) (k : ℕ) where
   sum-refused : (r : ℕ) → (r ≡ 0 → ⊥) → runningSumRefusal s p v k ≡ r → refused r ≡ runningSummed s p v k
@@ -52,7 +51,7 @@ module _ {n : ℕ} {s : List ℕ} (j : JobOf n s) (p : ℕ) (v : Vertex) (k : �
       count-ok = le-leb k (termCount (body s (p + 1))) (subst (λ (c : List ℕ). k ≤ termCount c) e enough)
 
       vertex-is : vertexAs n v ≡ summedVertex s (coordinates v)
-      unfolding vertexAs summedVertex coordinates
+      unfolding vertexAs summedVertex
       vertex-is = ap (λ (m : ℕ). vertexAs m v) (j .dimension)
 
       inside-is : fieldOf s .inBox (vertexAs n v) ≡ insideFrom (body s 0) 0 (summedVertex s (coordinates v))

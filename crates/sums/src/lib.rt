@@ -7,7 +7,7 @@ use values::polynomial;
 ghost use mathlib.Core.Path.{_≡_};
 ghost use Rattle.paper.specs.Answers.{summedAs};
 ghost use Rattle.paper.specs.RunningSum.{runningSummed};
-ghost use Rattle.sums.specs.Given.{coordinates};
+ghost use Rattle.places.specs.Held.{coordinates};
 
 // The exact sum of the last so many terms of a polynomial, numbered from 0; 12 if there is no such polynomial or it has not so many terms,
 // then 9 if the vertex lies outside the box.

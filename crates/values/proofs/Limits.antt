@@ -2,7 +2,6 @@
 -- allow stays inside 64 bits.
 use mathlib.Core.Path.{_≡_, refl}
 use Prim.Native.Nat.{ℕ, _+_, _^_, _-_, _≤_}
-use native.Mathlib.Omega.{arith}
 use native.Mathlib.Nat.{le-trans}
 use lib.Dec.{lit≤}
 use Rattle.paper.specs.Limits.{coordinateLimit, coefficientLimit, degreeLimit}
@@ -52,7 +51,3 @@ move-word = lit≤ tt
 pub limit-sum : (n : ℕ) → partialSumLimit n ≤ sumLimit
 unfolding sumLimit termSize monomialLimit coefficientLimit coordinateLimit degreeLimit
 limit-sum n = le-trans (limit-most n) (lit≤ tt)
-
--- a term more than a partial sum
-pub limit-and-term : (n : ℕ) → partialSumLimit n + termSize ≤ 2 ^ 63 - 1
-limit-and-term n = rw term-size (omega (arith, rw term-size at (limit-most n)))

@@ -20,7 +20,7 @@ use Rattle.exact.proofs.Bits.{holds, holds-call, back, back-is, fits-mul, holds
 use Rattle.curves.specs.Step.{every}
 use Rattle.paper.specs.Limits.{coordinateLimit, degreeLimit}
 use Rattle.paper.specs.RunningSum.{monomialLimit, vertexWithin}
-use Rattle.paper.proofs.AnyOrder.{take-short}
+use Rattle.paper.proofs.Taken.{take-short}
 use Rattle.bits.specs.Axes.{Axes}
 use Rattle.bits.proofs.EachDimension.{each-axes}
 use Rattle.places.specs.declared.Vertex.{Vertex}

@@ -1,4 +1,4 @@
--- The sum of a polynomial at a vertex: the limits that keep it inside 64 bits, what is asked of the polynomial's bytes, and the powers of
+-- The sum of a polynomial at a vertex: a limit that keeps it inside 64 bits, what is asked of the polynomial's bytes, and the powers of
 -- a coordinate in a table, the power e at index e. Entry 1 of a table is the coordinate itself, so the tables give the vertex.
 use Prim.Native.Nat.{ℕ, _^_, _≤_, _<_}
 use mathlib.Core.Path.{_≡_}
@@ -14,7 +14,7 @@ use Rattle.paper.specs.Job.{termCount, exponentOf, polynomialOk}
 use Rattle.bits.specs.Axes.{Axes}
 use Rattle.places.specs.Held.{counted}
 
--- the size of a sum of as many terms as a polynomial may have, in any dimension
+-- no sum of as many terms as a polynomial may have is larger in size, in any dimension (`partialSumLimit` is the bound by dimension)
 unfoldable pub sumLimit : ℕ
 sumLimit = 2 ^ 59
 

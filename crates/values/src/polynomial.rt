@@ -89,8 +89,8 @@ fn sum_of_last(
     requires { ⌜ Tables n (now px) (now py) (now pz) (now pw) ⌝ }
     ensures { λ r. ⌜ Is (partialSumLimit n) (runningSum (now (body .entry)) (tabled n (now (px .entry)) (now (py .entry)) (now (pz .entry)) (now (pw .entry))) terms) r ⌝ }
 {
+    let first = body.len() / 8 - terms;
     let mut i = body.len() / 8;
-    let first = i - terms;
     let mut sum: i64 = 0;
     while first < i {
         i -= 1;
@@ -112,8 +112,8 @@ pub fn running_sum(body: &[u8], n: usize, v: Vertex, terms: usize) -> i64
     sum_of_last(body, n, terms, &px, &py, &pz, &pw)
 }
 
-// The exact sum of the polynomial at a vertex: its running sum after all terms. It makes its own tables and does not call `running_sum`: a
-// trace spends its time here, and with one caller each of the two is inlined.
+// The exact sum of the polynomial at a vertex: its running sum after all terms. It makes its own tables and does not call `running_sum`, which
+// is then called from two places and no longer inlined: a trace spends its time here.
 pub fn raw_sum(body: &[u8], n: usize, v: Vertex) -> i64
     requires { ⌜ (Polynomial n (now body)) × (Near n v) ⌝ }
     ensures { λ r. ⌜ Is sumLimit (rawSum (now (body .entry)) (vertexAs n v)) r ⌝ }

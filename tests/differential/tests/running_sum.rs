@@ -31,11 +31,11 @@ fn name(n: usize, answer: Result<i128, u8>) -> Answer {
 }
 
 /// Sums that a wrong product would not give.
-const TELLING: [&str; 4] =
+const DISTINCT: [&str; 4] =
     ["unlike that of the first", "larger than the whole", "0 by the bias", "of a full body"];
 
 /// Which of them the sum of the last k terms is.
-fn telling(parts: &Parts, terms: &[Term], v: &Vertex, k: usize) -> Vec<&'static str> {
+fn distinct(parts: &Parts, terms: &[Term], v: &Vertex, k: usize) -> Vec<&'static str> {
     let found = sum(&terms[terms.len() - k..], v);
     let holds = [
         found != sum(&terms[..k], v),
@@ -43,7 +43,7 @@ fn telling(parts: &Parts, terms: &[Term], v: &Vertex, k: usize) -> Vec<&'static 
         found != value(parts.bias, found),
         terms.len() == Limits::of(parts.n).terms,
     ];
-    TELLING.into_iter().zip(holds).filter(|(_, holds)| *holds).map(|(name, _)| name).collect()
+    DISTINCT.into_iter().zip(holds).filter(|(_, holds)| *holds).map(|(name, _)| name).collect()
 }
 
 /// Coordinates outside the box that must come up on each axis.
@@ -71,7 +71,7 @@ struct Met {
     terms: Tally<u64>,
     /// Whether a number above axis n was not 0.
     noise: Tally<bool>,
-    telling: Tally<&'static str>,
+    distinct: Tally<&'static str>,
 }
 
 impl Met {
@@ -113,8 +113,8 @@ impl Met {
         self.terms.count(n, asked.terms);
         self.noise.count(n, at[n..].iter().any(|&x| x != 0));
         let terms = &parts.polynomials[asked.polynomial as usize];
-        for name in telling(parts, terms, &vertex(&at[..n]), asked.terms as usize) {
-            self.telling.count(n, name);
+        for name in distinct(parts, terms, &vertex(&at[..n]), asked.terms as usize) {
+            self.distinct.count(n, name);
         }
     }
 
@@ -123,7 +123,7 @@ impl Met {
         self.kinds.assert_all();
         self.answers.assert_met(&OWN);
         self.far.assert_includes(&[("polynomial", u64::MAX), ("terms", u64::MAX)]);
-        self.telling.assert_met(&TELLING);
+        self.distinct.assert_met(&DISTINCT);
         for n in DIMENSIONS {
             let ways = (1..=n).flat_map(|axis| OUTSIDE.map(|name| (axis, name)));
             self.outside.assert_met_in(n, &ways.collect::<Vec<_>>());

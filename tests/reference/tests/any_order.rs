@@ -73,8 +73,8 @@ fn any_list(r: &mut Random, n: usize, kind: List) -> (Vec<Term>, Vertex) {
 const MET: [&str; 4] =
     ["other partial sums", "a partial sum larger than the whole", "the bound", "minus the bound"];
 
-/// Sums the list in so many orders: the whole is always the same, and each partial sum is that of
-/// the last terms and within the bound.
+/// Sums the list in so many orders: the whole is always the same, and each partial sum is within
+/// the bound. In the last of these orders each is also that of the last terms.
 fn check_orders(r: &mut Random, n: usize, mut list: Vec<Term>, v: &Vertex, met: &mut Tally<&str>) {
     let (whole, first) = (sum(&list, v), running_sums(&list, v));
     for _ in 0..ORDERS {

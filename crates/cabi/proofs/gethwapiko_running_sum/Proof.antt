@@ -1,7 +1,6 @@
 -- `cabi::gethwapiko_running_sum` meets its contract: what the running sum answers, by its constructor.
 use mathlib.Core.Path.{sym, ap, _∙_}
 use Rattle.paper.specs.Answers.{summedAs}
-use Rattle.sums.specs.Given.{coordinates}
 use Rattle.cabi.specs.Numbers.{sumNumbers}
 use Rattle.cabi.proofs.Answers.{sum-as, sum-at}
 use borrow.Author.Needs.{needs}
@@ -18,13 +17,13 @@ enum-known-sum : tie.Need-enum-known-sum
 enum-known-sum c = search needs
 
 returns : tie.Need-returns
-unfolding summedAs sumNumbers coordinates
+unfolding summedAs sumNumbers
 returns c =
     let fits = c .before .before .before .before .before .fits in
     sum-as _ _ _ _ _ _ _ (fits .x) (fits .y) (fits .z) (fits .w) (ap summedAs (sym (c .before .refusal .given .1)) ∙ c .before .before .before .running-sum .ensures)
 
 returns-2 : tie.Need-returns-2
-unfolding summedAs sumNumbers coordinates
+unfolding summedAs sumNumbers
 returns-2 c =
     let fits = c .before .before .before .before .before .fits in
     sum-at _ _ _ _ _ _ _ (fits .x) (fits .y) (fits .z) (fits .w) (record { sfits = c .known-told2 .given .0 .1 })

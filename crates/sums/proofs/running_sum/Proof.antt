@@ -31,7 +31,7 @@ sub-if2 c = omega (arith, job-axes (job c) .low)
 
 returns-2 : tie.Need-returns-2
 unfolding summedAs
-returns-2 c = no-polynomial (job (c .before)) _ _ _ (c .if2 .taken)
+returns-2 c = no-polynomial (job (c .before)) _ _ _ (omega (arith, c .if2 .taken))
 
 add-opened-body : tie.Need-add-opened-body
 add-opened-body c = search needs

@@ -44,7 +44,7 @@ returns c =
     raw-sum-at _ _ (vertex-short _ _)
     (tabled-is (start .pre .0 .axes) (start .pre .1)
     (of-x .powers .ensures) (of-y .powers2 .ensures) (of-z .powers3 .ensures) (of-w .powers4 .ensures))
-    (c .sum-of-last .ensures)
+    (c .sum-of-last .ensures) (omega arith)
 
 pub raw-sum-spec : {M : Type 1} → statement M
 raw-sum-spec =

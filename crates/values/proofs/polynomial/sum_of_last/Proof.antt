@@ -1,6 +1,6 @@
 -- `values::polynomial::sum_of_last` meets its contract. The loop's invariant: after k terms the sum is that of the last k, where k is as many as
 -- the terms from i on.
-use Prim.Native.Nat.{_≤_, _-_}
+use Prim.Native.Nat.{ℕ, _≤_, _-_}
 use native.Mathlib.Omega.{arith}
 use mathlib.Core.Path.{_≡_}
 use mir.Syntax.{w64}
@@ -8,16 +8,16 @@ use mir.Val.{toZ}
 use Rattle.paper.specs.Job.{termCount}
 use Rattle.values.specs.Sums.{tabled}
 use Rattle.values.proofs.Powers.{BoxVertex, tables-vertex}
-use Rattle.values.proofs.PartialSums.{Last, last-none, last-fits, last-more, running-is}
+use Rattle.values.proofs.PartialSums.{IsSumOfLast, last-none, last-fits, last-more, running-is}
 use Rattle.values.proofs.polynomial.sum_of_last.Statement.{statement}
 use Rattle.values.proofs.polynomial.sum_of_last.Tie as tie
 
 abbrev Inv-loop : tie.InvT-loop
-Inv-loop body n terms px py pz pw i₀ first sum₀ i sum =
-    (first ≤ i) × (i ≤ termCount body) × Last n body (tabled n px py pz pw) (termCount body - i) (toZ w64 sum)
+Inv-loop body n terms px py pz pw first i₀ sum₀ i sum =
+    IsSumOfLast n body (tabled n px py pz pw) (termCount body - i) (toZ w64 sum) × (first ≤ i) × (i ≤ termCount body)
 
 abbrev μ-loop : tie.MeasureT-loop
-μ-loop body n terms px py pz pw i₀ first sum₀ i sum = i
+μ-loop body n terms px py pz pw first i₀ sum₀ i sum = i
 
 at-vertex : (c : tie.Start Inv-loop μ-loop) → BoxVertex (tabled (c .args .n) (c .args .px .now) (c .args .py .now) (c .args .pz .now) (c .args .pw .now))
 at-vertex c = tables-vertex (c .pre .0 .0 .axes) (c .pre .1)
@@ -28,7 +28,7 @@ sub-first c = omega (arith, c .before .pre .0 .1)
 
 loop-holds : tie.Need-loop-holds Inv-loop μ-loop
 unfolding termCount
-loop-holds c = (omega arith, omega arith, last-none (c .before .pre .0 .0) (at-vertex (c .before)))
+loop-holds c = (last-none (c .before .pre .0 .0) (at-vertex (c .before)) _ (omega arith), omega arith, omega arith)
 
 sub-i : tie.Need-sub-i Inv-loop μ-loop
 sub-i c = omega (arith, c .loop-test .taken)
@@ -36,13 +36,13 @@ sub-i c = omega (arith, c .loop-test .taken)
 term-value-requires : tie.Need-term-value-requires Inv-loop μ-loop
 term-value-requires c κs =
     let h = c .before .before .before .pre in
-    ((h .0 .0, omega (arith, c .loop-test .taken, c .before .loop .inv .1)), h .1)
+    ((h .0 .0, omega (arith, c .loop-test .taken, c .before .loop .inv .2)), h .1)
 
 add-sum : tie.Need-add-sum Inv-loop μ-loop
 add-sum c =
     let start = c .before .before .before .before in
     let inv = c .before .before .loop .inv in
-    last-fits (start .pre .0 .0) (at-vertex start) _ (omega (arith, c .before .loop-test .taken)) (inv .1) (inv .2)
+    last-fits (start .pre .0 .0) (at-vertex start) _ (omega (arith, c .before .loop-test .taken)) (inv .2) (inv .0)
     (c .term-value .ensures)
 
 loop-less : tie.Need-loop-less Inv-loop μ-loop
@@ -52,10 +52,10 @@ loop-again : tie.Need-loop-again Inv-loop μ-loop
 loop-again c =
     let start = c .before .before .before .before in
     let inv = c .before .before .loop .inv in (
-      omega (arith, c .before .loop-test .taken),
-      omega (arith, inv .1),
-      last-more (start .pre .0 .0) (at-vertex start) _ (omega (arith, c .before .loop-test .taken)) (inv .1) (inv .2)
+      last-more (start .pre .0 .0) (at-vertex start) _ (omega (arith, c .before .loop-test .taken)) (inv .2) (inv .0)
           (c .term-value .ensures),
+      omega (arith, c .before .loop-test .taken),
+      omega (arith, inv .2),
     )
 
 returns : tie.Need-returns Inv-loop μ-loop
@@ -63,10 +63,9 @@ unfolding termCount
 returns c =
     let start = c .before .before .before in
     let inv = c .before .loop .inv in
-    let all : termCount (start .args .body .now) - c .before .loop .i ≡ start .args .terms =
-    omega (arith, c .loop-test .left, inv .0, start .pre .0 .1)
-    in
-    running-is (start .pre .0 .0) (at-vertex start) _ (start .pre .0 .1) (rw all at (inv .2))
+    let done : ℕ = termCount (start .args .body .now) - c .before .loop .i in
+    let all : done ≡ start .args .terms = omega (arith, c .loop-test .left, inv .1, start .pre .0 .1) in
+    running-is (start .pre .0 .0) (at-vertex start) _ (start .pre .0 .1) (rw all at (inv .0))
 
 pub sum-of-last-spec : {M : Type 1} → statement M
 sum-of-last-spec =

@@ -1,2 +1,0 @@
--- How the operation is handed a vertex.
-pub mod Given
