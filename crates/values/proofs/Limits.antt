@@ -18,10 +18,6 @@ pub monomial-limit : monomialLimit ≡ 2 ^ 32
 unfolding monomialLimit coordinateLimit degreeLimit
 monomial-limit = refl
 
-pub term-size : termSize ≡ 2 ^ 52
-unfolding termSize monomialLimit coefficientLimit coordinateLimit degreeLimit
-term-size = refl
-
 -- ---- inside 64 bits
 
 pub coordinate-word : coordinateLimit ≤ 2 ^ 63 - 1
