@@ -1,5 +1,5 @@
-// The C interface: each function hands on what an operation of document 01 or of a request answers, as a struct of numbers. A slice is a pointer and a
-// length. Refusal 0 is none; beside a refusal, and where an answer does not use a field, the field is 0.
+// The C interface: each function hands on what an operation of document 01 or of a request answers, as a struct of numbers. A slice is a
+// pointer and a length. Refusal 0 is none; beside a refusal, and where an answer does not use a field, the field is 0.
 
 use bits::read;
 use paper::Judged;

@@ -112,8 +112,8 @@ pub fn running_sum(body: &[u8], n: usize, v: Vertex, terms: usize) -> i64
     sum_of_last(body, n, terms, &px, &py, &pz, &pw)
 }
 
-// The exact sum of the polynomial at a vertex: its running sum after all terms. It makes its own tables and does not call `running_sum`, which
-// is then called from two places and no longer inlined: a trace spends its time here.
+// The exact sum of the polynomial at a vertex: its running sum after all terms. A trace spends its time here, so it makes its own tables:
+// `running_sum` would be called from two places, and no longer inlined.
 pub fn raw_sum(body: &[u8], n: usize, v: Vertex) -> i64
     requires { ⌜ (Polynomial n (now body)) × (Near n v) ⌝ }
     ensures { λ r. ⌜ Is sumLimit (rawSum (now (body .entry)) (vertexAs n v)) r ⌝ }
