@@ -1,7 +1,7 @@
-//! The paper in plain Rust: every definition and every operation, written from the paper, the
-//! requests and `docs/DECISIONS.md` alone, in their order and words. It shares no code with the
-//! proved library and is no faster than the definitions allow: the differential tests compare the
-//! library with it.
+//! The paper in plain Rust: every definition and every operation, in the order and words of the
+//! paper and the requests, with the readings that `docs/DECISIONS.md` states. It shares no code
+//! with the proved library and is no faster than the definitions allow: the differential tests
+//! compare the library with it.
 //!
 //! It is over any dimension up to `limits::MOST`: what differs from one to another stands in the
 //! table of `limits`. All sums are taken in 128 bits, determinants by Laplace's expansion,
