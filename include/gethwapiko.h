@@ -57,7 +57,7 @@ typedef struct {
 
 typedef struct {
     uint64_t refusal;
-    int64_t x, y, z, w; /* in steps of 1/1024, rounded down */
+    int64_t x, y, z, w; /* in steps of 1/1024, to the nearest, a half to the even count */
 } PointAnswer;
 
 enum { GETHWAPIKO_NEXT = 0, GETHWAPIKO_STEP_EDGE = 1, GETHWAPIKO_STEP_LIMIT = 2 };
@@ -83,7 +83,7 @@ enum { GETHWAPIKO_LIFT = 0, GETHWAPIKO_DRAW = 1, GETHWAPIKO_CLOSE = 2 };
 typedef struct {
     uint64_t refusal;
     uint64_t kind;  /* 0 lift, 1 draw, 2 close */
-    double x, y, z; /* on axes 1 to 3, in millimetres: the steps divided by 1024, exactly */
+    double x, y, z; /* on axes 1 to 3, in millimetres: the steps of Point divided by 1024, exactly */
 } PenAnswer;
 
 typedef struct {
@@ -100,7 +100,8 @@ BodyAnswer gethwapiko_body(const uint8_t *job, size_t job_length, uint64_t index
 /* Judge: whether the place's facet is crossed. Refusals 13, 9, 10. */
 JudgeAnswer gethwapiko_judge(const uint8_t *job, size_t job_length, const uint8_t *place, size_t place_length);
 
-/* Point: where the curve crosses the place's facet. Refusals 13, 9, 10, 11. */
+/* Point: where the curve crosses the place's facet, on each axis to the nearest step: 1/2048 of a unit is 0 steps, 3/2048 is 2, -1/2048 is 0.
+ * Refusals 13, 9, 10, 11. */
 PointAnswer gethwapiko_point(const uint8_t *job, size_t job_length, const uint8_t *place, size_t place_length);
 
 /* Step: the place of the other crossed facet of the simplex on the place's side; edge if that simplex has a vertex outside the box,

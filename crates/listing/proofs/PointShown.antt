@@ -3,10 +3,9 @@ use Prim.Native.Nat.{ℕ, suc, zero, _≤_}
 use mathlib.Core.Path.{_≡_, refl, sym, ap, ap₂, _∙_}
 use mathlib.Core.List.{List, [], _∷_}
 use native.Mathlib.Omega.{arith}
-use lib.ListN.{length, take, length-map}
+use lib.ListN.{length, take}
 use Rattle.exact.specs.Int.{0ℤ}
 use Rattle.exact.specs.Det.{Column}
-use Rattle.exact.proofs.CountFrom.{length-countFrom}
 use Rattle.curves.specs.Grid.{Place, Vertex}
 use Rattle.paper.specs.Job.{dimension, decodePlace}
 use Rattle.paper.specs.Values.{fieldOf, pointFrom, pointOf}
@@ -17,6 +16,7 @@ use Rattle.paper.specs.declared.Pointed as Pointed
 use Rattle.paper.specs.Listing.{placeLine}
 use Rattle.paper.proofs.Refusals.{unless-answered}
 use Rattle.paper.proofs.Opens.{opens, opens-range}
+use Rattle.paper.proofs.Encode.{decoded-low-length}
 use Rattle.places.specs.declared.HeldPlace.{HeldPlace}
 use Rattle.places.specs.Held.{facetAs, placeAs}
 use Rattle.places.specs.PlaceBytes.{PlaceRead}
@@ -38,10 +38,6 @@ unfolding pointFrom
 point-length n cs ms a [] = refl
 point-length n cs ms a (x ∷ v) = ap suc (point-length n cs ms (suc a) v)
 
-low-length : (s p : List ℕ) → length (facetOf s p .low) ≡ dimension s
-unfolding facetOf decodePlace
-low-length s p = simp length-map (length-countFrom 0 (dimension s))
-
 module _ (s p : List ℕ) (passes : pointRefusal s p ≡ 0) where
   padded-is : paddedPoint (pointed s p) ≡ answered (padded 0ℤ 4 (pointOf (dimension s) (fieldOf s) (facetOf s p)))
   unfolding pointed paddedPoint
@@ -49,13 +45,13 @@ module _ (s p : List ℕ) (passes : pointRefusal s p ≡ 0) where
 
   point-shown : {found : Pointed.Pointed} {q : StepPoint} → found ≡ Pointed.the-variants.At q → pointedAs found ≡ paddedPoint (pointed s p)
       → dimension s ≤ 4 → take (dimension s) (q .x ∷ q .y ∷ q .z ∷ q .w ∷ []) ≡ pointOf (dimension s) (fieldOf s) (facetOf s p)
-  unfolding pointedAs pointOf
+  unfolding pointedAs pointOf facetOf
   point-shown {found} {q} e f h =
       let whole : answered (q .x ∷ q .y ∷ q .z ∷ q .w ∷ []) ≡ answered (padded 0ℤ 4 (pointOf (dimension s) (fieldOf s) (facetOf s p))) =
       sym (ap pointedAs e) ∙ f ∙ padded-is in
       let same : q .x ∷ q .y ∷ q .z ∷ q .w ∷ [] ≡ padded 0ℤ 4 (pointOf (dimension s) (fieldOf s) (facetOf s p)) = cc in
       ap (take (dimension s)) same
-      ∙ take-padded 0ℤ 4 (dimension s) (pointOf (dimension s) (fieldOf s) (facetOf s p)) (point-length _ _ _ _ _ ∙ low-length s p) h
+      ∙ take-padded 0ℤ 4 (dimension s) (pointOf (dimension s) (fieldOf s) (facetOf s p)) (point-length _ _ _ _ _ ∙ decoded-low-length (dimension s) p) h
 
   pub point-not-refused : {found : Pointed.Pointed} {k : ℕ} → found ≡ Pointed.the-variants.Refused k → pointedAs found ≡ paddedPoint (pointed s p) → ⊥
   unfolding pointedAs

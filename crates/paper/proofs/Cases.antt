@@ -1,4 +1,4 @@
--- The marked cases A to J of document 01 and its wrong turn of rounding, as rows of a table under one theorem: each row holds
+-- The marked cases A to J of document 01 and the numbers that request 2.5 names for the rounding, as rows of a table under one theorem: each row holds
 -- by computation from the definitions.
 use Prim.Native.Nat.{ℕ, zero, suc}
 use Prim.Native.String.{String}
@@ -88,14 +88,39 @@ caseI =
 unfoldable pub caseJ : List ℕ
 caseJ = oneTermJob (1 ∷ 0 ∷ 1 ∷ 0 ∷ 0 ∷ 0 ∷ 1 ∷ 0 ∷ []) (1 ∷ 0 ∷ 0 ∷ 0 ∷ 1 ∷ 0 ∷ 0 ∷ 0 ∷ []) unitStart
 
--- the wrong turn of rounding: 10,240·x + 3, box − 1 to 1 on both axes, start − 1 0, mask 1, side 0; the polynomial is 0 at
--- x = − 3 / 10,240, which is − 0.3 steps
+-- the jobs of the rounding: a·x + b, its coefficients in bytes; box − 1 to 1 on both axes; start x 0, mask 1, side 0
+unfoldable pub slopePlace : List ℕ → List ℕ
+slopePlace x = x ++ (0 ∷ 0 ∷ 1 ∷ 0 ∷ [])
+
+unfoldable pub slopeJob : List ℕ → List ℕ → List ℕ → List ℕ
+slopeJob a b x =
+    (1 ∷ 2 ∷ 3 ∷ 0 ∷ 16 ∷ 0 ∷ 8 ∷ 0 ∷ 24 ∷ 0 ∷ 16 ∷ 0 ∷ 40 ∷ 0 ∷ 6 ∷ 0 ∷ 255 ∷ 255 ∷ 1 ∷ 0 ∷ 255 ∷ 255 ∷ 1 ∷ 0 ∷ [])
+    ++ (b ++ ((0 ∷ 0 ∷ 0 ∷ 0 ∷ []) ++ (a ++ ((1 ∷ 0 ∷ 0 ∷ 0 ∷ []) ++ slopePlace x))))
+
+-- from x = 0 up, and from x = − 1 up
+unfoldable pub fromZero : List ℕ
+fromZero = 0 ∷ 0 ∷ []
+
+unfoldable pub fromMinusOne : List ℕ
+fromMinusOne = 255 ∷ 255 ∷ []
+
+-- 10,240·x + 3 is 0 at x = − 3 / 10,240, which is − 0.3 steps
 unfoldable pub minusThreeTenths : List ℕ
-minusThreeTenths =
-    1 ∷ 2 ∷ 3 ∷ 0 ∷ 16 ∷ 0 ∷ 8 ∷ 0 ∷ 24 ∷ 0 ∷ 16 ∷ 0
-    ∷ 40 ∷ 0 ∷ 6 ∷ 0 ∷ 255 ∷ 255 ∷ 1 ∷ 0 ∷ 255 ∷ 255 ∷ 1 ∷ 0
-    ∷ 3 ∷ 0 ∷ 0 ∷ 0 ∷ 0 ∷ 0 ∷ 0 ∷ 0 ∷ 0 ∷ 40 ∷ 0 ∷ 0
-    ∷ 1 ∷ 0 ∷ 0 ∷ 0 ∷ 255 ∷ 255 ∷ 0 ∷ 0 ∷ 1 ∷ 0 ∷ []
+minusThreeTenths = slopeJob (0 ∷ 40 ∷ 0 ∷ 0 ∷ []) (3 ∷ 0 ∷ 0 ∷ 0 ∷ []) fromMinusOne
+
+-- 2,048·x − 1 and 2,048·x − 3: a half of a step, and three halves
+unfoldable pub halfStep : List ℕ
+halfStep = slopeJob (0 ∷ 8 ∷ 0 ∷ 0 ∷ []) (255 ∷ 255 ∷ 255 ∷ 255 ∷ []) fromZero
+
+unfoldable pub threeHalfSteps : List ℕ
+threeHalfSteps = slopeJob (0 ∷ 8 ∷ 0 ∷ 0 ∷ []) (253 ∷ 255 ∷ 255 ∷ 255 ∷ []) fromZero
+
+-- 2,048·x + 1 and 2,048·x + 3: the same under 0
+unfoldable pub minusHalfStep : List ℕ
+minusHalfStep = slopeJob (0 ∷ 8 ∷ 0 ∷ 0 ∷ []) (1 ∷ 0 ∷ 0 ∷ 0 ∷ []) fromMinusOne
+
+unfoldable pub minusThreeHalfSteps : List ℕ
+minusThreeHalfSteps = slopeJob (0 ∷ 8 ∷ 0 ∷ 0 ∷ []) (3 ∷ 0 ∷ 0 ∷ 0 ∷ []) fromMinusOne
 
 -- ---- the rows
 
@@ -121,8 +146,8 @@ unfolding Int._⊕_ Int.neg Int._⊖_ Int._⊗_ Int.power
     Job.exponentOf Job.exponentsZero Job.degree Job.termOk Job.exponentWeight Job.rises Job.polynomialOk Job.decodePlace
     Job.vertexBytes Job.encodePlace Job.withStart Job.refuseIf Job.openRefusal
     Values.monomial Values.termValue Values.sumFrom Values.rawSum Values.readableSum Values.valueOf Values.sums
-    Values.insideFrom Values.fieldFrom Values.fieldOf Values.roundSteps Values.hasAxis Values.weightSum Values.overSize
-    Values.coordinateSteps Values.pointFrom Values.pointOf
+    Values.insideFrom Values.fieldFrom Values.fieldOf Values.nearestSteps Values.roundSteps Values.hasAxis Values.weightSum Values.overSize
+    Values.shareSteps Values.coordinateSteps Values.pointFrom Values.pointOf
     Operations.unless Operations.firstRefusal Operations.facetRefusal Operations.crossedIn Operations.placeBad
     Operations.facetOf Operations.judgeRefusal Operations.judged Operations.pointRefusal Operations.pointed
     Operations.stepIn Operations.startOf Operations.traceRefusal Operations.onSameFacet Operations.traced
@@ -263,8 +288,13 @@ markedCases =
     ∷ refuses caseJ 6
     -- A: it prints these seven lines
     ∷ prints caseA linesA
-    -- the wrong turn: − 0.3 steps are rounded down to − 1, and not to 0
-    ∷ points minusThreeTenths (255 ∷ 255 ∷ 0 ∷ 0 ∷ 1 ∷ 0 ∷ []) (negsuc 0 ∷ pos 0 ∷ [])
+    -- request 2.5: − 0.3 steps, a wrong turn of document 01, are now 0
+    ∷ points minusThreeTenths (slopePlace fromMinusOne) (pos 0 ∷ pos 0 ∷ [])
+    -- 1 / 2,048 of a unit, half a step, is 0, and 3 / 2,048 is 2; − 1 / 2,048 is 0, and − 3 / 2,048 is − 2
+    ∷ points halfStep (slopePlace fromZero) (pos 0 ∷ pos 0 ∷ [])
+    ∷ points threeHalfSteps (slopePlace fromZero) (pos 2 ∷ pos 0 ∷ [])
+    ∷ points minusHalfStep (slopePlace fromMinusOne) (pos 0 ∷ pos 0 ∷ [])
+    ∷ points minusThreeHalfSteps (slopePlace fromMinusOne) (negsuc 1 ∷ pos 0 ∷ [])
     ∷ []
 
 -- the same, built row by row
@@ -281,7 +311,7 @@ all-hold (h also hs) = (h, all-hold hs)
 pub marked-cases-hold : AllHold markedCases
 unfolding bodyOffsets
     markedCases placesA placesC linesA oneTermJob unitBox unitStart caseA caseC caseF caseG caseH caseI caseJ
-    minusThreeTenths
+    slopePlace slopeJob fromZero fromMinusOne minusThreeTenths halfStep threeHalfSteps minusHalfStep minusThreeHalfSteps
 marked-cases-hold =
     all-hold {rs = markedCases} (
     -- A
@@ -292,6 +322,6 @@ marked-cases-hold =
     also refl also refl also refl also refl also refl also refl also refl
     -- F, G, H, I and J
     also refl also refl also refl also refl also refl also refl
-    -- the lines of A, and the wrong turn of rounding
-    also refl also refl also end
+    -- the lines of A, and the rounding
+    also refl also refl also refl also refl also refl also refl also end
     )

@@ -184,14 +184,14 @@ linesLine =
     ∷ "0 0 0 0 10 14 15 0 0 0 0"
     ∷ "0 0 0 0 8 14 15 0 0 0 0"
     ∷ "0 0 0 1 4 6 7 256 512 768 1024"
-    ∷ "0 0 1 1 2 3 11 341 682 1024 1365"
-    ∷ "0 0 1 1 2 11 15 341 682 1024 1365"
+    ∷ "0 0 1 1 2 3 11 341 683 1024 1365"
+    ∷ "0 0 1 1 2 11 15 341 683 1024 1365"
     ∷ "0 1 1 1 8 9 13 512 1024 1536 2048"
     ∷ "0 1 1 1 8 13 15 512 1024 1536 2048"
     ∷ "0 1 1 2 4 5 7 512 1024 1536 2048"
     ∷ "0 1 1 2 4 5 15 512 1024 1536 2048"
-    ∷ "0 1 2 2 1 9 11 682 1365 2048 2730"
-    ∷ "0 1 2 2 9 11 15 682 1365 2048 2730"
+    ∷ "0 1 2 2 1 9 11 683 1365 2048 2731"
+    ∷ "0 1 2 2 9 11 15 683 1365 2048 2731"
     ∷ "0 1 2 3 1 3 7 768 1536 2304 3072"
     ∷ "0 1 2 3 3 7 15 1024 2048 3072 4096"
     ∷ "0 2 2 3 1 5 13 1024 2048 3072 4096"
@@ -233,7 +233,7 @@ markedCases4 =
     ∷ traces caseA4 0 full []
     -- a loop through vertices where all three polynomials are 0
     ∷ traces tiedLoop 14 loop placesLoop
-    -- the straight line: its ends are vertices, and the points between them are rounded down
+    -- the straight line: its ends are vertices, and the points between them are rounded to the nearest step
     ∷ prints lineJob linesLine
     -- its last point is 1 2 3 4; the pen goes to 1 2 3
     ∷ points lineJob (encodePlace (place (at 0 2 2 3) (1 ∷ 5 ∷ 13 ∷ []) 0)) (at 1024 2048 3072 4096)

@@ -6,12 +6,13 @@ use mathlib.Core.Path.{_≡_, refl, sym, ap, subst, _∙_}
 use mathlib.Core.Bool.{true}
 use mathlib.Core.List.{List, [], _∷_, _++_, map}
 use lib.IntN.{ℤ}
-use lib.ListN.{length, drop, getD, length-append, drop-of-length-le}
+use lib.ListN.{length, drop, getD, length-append, length-map, drop-of-length-le}
 use lib.Seq.{getD-drop, drop-drop, drop-at, drop-cons}
 use lib.Dec.{ltb}
 use borrow.Author.Tests.{ltb-true, lt-ltb}
 use Rattle.exact.proofs.AndTests.{and-left, and-right, and-true}
 use Rattle.exact.specs.Crossed.{countFrom}
+use Rattle.exact.proofs.CountFrom.{length-countFrom}
 use Rattle.curves.specs.Grid.{Vertex, Place, placeOk, under}
 use Rattle.curves.specs.Step.{every}
 use Rattle.curves.proofs.SameFacet.{facet-path, place-path}
@@ -34,6 +35,10 @@ unfolding encodePlace
 encode-length n p h =
     let f = place-formed n p h in
     simp length-append (omega (arith, vertexBytes-length (p .facet .low)))
+
+pub decoded-low-length : (n : ℕ) (b : List ℕ) → length (decodePlace n b .facet .low) ≡ n
+unfolding decodePlace
+decoded-low-length n b = simp length-map (length-countFrom 0 n)
 
 -- ---- read back
 

@@ -4,6 +4,7 @@ pub mod Cases
 pub mod Cases4
 pub mod CasesBias
 pub mod CasesSum
+pub mod CasesNearest
 pub mod Tests
 pub mod RangeSteps
 pub mod Refusals

@@ -1,107 +1,281 @@
--- A coordinate of a point is rounded down, the whole of it: `coordinateSteps low num d` is the floor of 1024 · (low + num / d),
--- for a number of steps under 0 too.
-use Prim.Native.Nat.{ℕ, suc, zero, _+_, _*_, _/_, _%_, _<_}
-use mathlib.Core.Path.{_≡_, refl, sym, ap, _∙_, subst}
-use mathlib.Core.Bool.{true}
-use mathlib.Core.Logic.{_≢_}
+-- The rounding of request 2.5. A coordinate of a point is the number of steps that is nearest to the exact coordinate, and the even one of two that are as
+-- near (`coordinate-nearest`, `point-nearest`, `pointed-nearest`); there is no other such number (`nearest-unique`).
+-- The definition rounds the share alone. That is the same as to round the whole coordinate (`coordinate-whole`), since a unit has an even number of steps:
+-- to add an even number of steps leaves a half a half, and an even count even (`round-moves`).
+use Prim.Native.Nat.{ℕ, suc, zero, _+_, _*_, _-_, _/_, _%_, _≤_, _<_}
+use mathlib.Core.Path.{_≡_, refl, sym, ap, ap₂, _∙_, subst}
+use mathlib.Core.Bool.{Bool, true, false, cond}
+use mathlib.Core.Logic.{_≢_, _⊎_, inl, inr}
 use mathlib.Core.List.{List, [], _∷_}
-use native.Mathlib.Nat.{div-add-mod, mod-lt, lt-of-mul-lt-mul-right}
+use native.Mathlib.Nat.{div-add-mod, mod-lt, le-of-mul-le-mul-right}
 use native.Mathlib.Omega.{arith}
+use borrow.Author.Tests.{ltb-true, ltb-false, eqb-true, eqb-false, not-false}
 use lib.IntN.{ℤ, pos, negsuc, natAbs}
-use lib.ListN.{length, getD}
-use lib.Signed.{_≤ℤ_, _<ℤ_}
-use Rattle.exact.specs.Int.{_⊕_, _⊗_, neg, 0ℤ, 1ℤ}
+use lib.ListN.{length, getD, length-map}
+use lib.Dec.{ltb, eqb}
+use Rattle.exact.specs.Int.{_⊕_, _⊖_, _⊗_, neg, 0ℤ, 1ℤ}
 use Rattle.exact.specs.Sign.{sign}
+use Rattle.exact.specs.Size.{Size}
 use Rattle.exact.specs.Det.{Column, determinant}
-use Rattle.exact.proofs.Linear.{up, down, split, linear}
-use Rattle.exact.proofs.Solver.{var, _:+_, _:*_, solve}
+use Rattle.exact.specs.Crossed.{countFrom}
+use Rattle.exact.proofs.Linear.{diff, up, down, split, linear, diff-add, diff-eq, pos-diff, negsuc-diff}
+use Rattle.exact.proofs.Solver.{var, con, _:+_, _:-_, _:*_, :neg, solve}
+use Rattle.exact.proofs.Ring.{add-zero}
+use Rattle.exact.proofs.SizeLaws.{natAbs-add, natAbs-neg, natAbs-mul}
 use Rattle.exact.proofs.SignLaws.{sign-zero}
 use Rattle.exact.proofs.Weights.{crossed-nonzero}
 use Rattle.curves.specs.Grid.{Vertex, Facet, facetVertices}
 use Rattle.curves.specs.Step.{Field, columns, crossedFacet}
 use Rattle.paper.specs.Limits.{stepsPerUnit}
-use Rattle.paper.specs.Values.{roundSteps, weightSum, overSize, coordinateSteps, pointFrom, pointOf}
+use Rattle.paper.specs.Job.{dimension, decodePlace}
+use Rattle.paper.specs.Values.{fieldOf, nearestSteps, roundSteps, weightSum, overSize, shareSteps, coordinateSteps, pointFrom, pointOf}
+use Rattle.paper.specs.Operations.{answered, crossedIn, facetOf, judgeRefusal, pointRefusal, pointed}
+use Rattle.paper.specs.Nearest.{IsNearest, facetD, exactSteps}
+use Rattle.paper.proofs.Refusals.{neither-refused, not-refused, answered-inv}
+use Rattle.paper.proofs.Encode.{decoded-low-length}
 
--- z is the floor of a / d, the largest whole number that is not above it. Where d is below 0, products by d turn the order
-abbrev pub Floor : ℤ → ℤ → ℤ → Type 0
-Floor a (pos d) z = (z ⊗ pos d ≤ℤ a) × (a <ℤ (z ⊕ 1ℤ) ⊗ pos d)
-Floor a (negsuc d) z = (a ≤ℤ z ⊗ negsuc d) × ((z ⊕ 1ℤ) ⊗ negsuc d <ℤ a)
+-- ---- a quotient and its rest
+
+even-or-odd : (q : ℕ) → (q % 2 ≡ 0) ⊎ (q % 2 ≡ 1)
+even-or-odd q = go (eqb (q % 2) 0) refl
+  where
+    go : (t : Bool) → eqb (q % 2) 0 ≡ t → (q % 2 ≡ 0) ⊎ (q % 2 ≡ 1)
+    go true e = inl (eqb-true (q % 2) 0 e)
+    go false e = let odd : q % 2 ≡ 0 → ⊥ = eqb-false (q % 2) 0 e in inr (omega (arith, odd))
+
+-- a is den times q and a rest of at most den
+module _ (a den q rest : ℕ) (e : den * q + rest ≡ a) (h : rest ≤ den) where
+  -- a is this far from q times den, and from q + 1 times den
+  above : pos a ⊖ pos q ⊗ pos den ≡ pos rest
+  above = simp linear (omega arith)
+
+  below : pos a ⊖ pos (suc q) ⊗ pos den ≡ neg (pos (den - rest))
+  below = simp linear (omega arith)
+
+  lower-nearest : 2 * rest ≤ den → (2 * rest ≡ den → q % 2 ≡ 0) → IsNearest (pos a) (pos den) (pos q)
+  lower-nearest l t = record { near = rw above l; even = rw above t }
+
+  upper-nearest : den ≤ 2 * rest → (2 * rest ≡ den → suc q % 2 ≡ 0) → IsNearest (pos a) (pos den) (pos (suc q))
+  upper-nearest l t = record {
+    near = rw (below, natAbs-neg (pos (den - rest))) (omega arith);
+    even = rw (below, natAbs-neg (pos (den - rest))) (λ k. t (omega arith));
+  }
+
+  -- less than a half, more, and a half
+  pub less-nearest : 2 * rest < den → IsNearest (pos a) (pos den) (pos q)
+  less-nearest l = lower-nearest (omega arith) (λ k. absurd (omega arith))
+
+  pub more-nearest : den < 2 * rest → IsNearest (pos a) (pos den) (pos (suc q))
+  more-nearest l = upper-nearest (omega arith) (λ k. absurd (omega arith))
+
+  pub half-nearest : 2 * rest ≡ den → IsNearest (pos a) (pos den) (pos (q + q % 2))
+  half-nearest l = go (even-or-odd q)
+    where
+      go : (q % 2 ≡ 0) ⊎ (q % 2 ≡ 1) → IsNearest (pos a) (pos den) (pos (q + q % 2))
+      go (inl t) =
+          let same : q ≡ q + q % 2 = omega arith in
+          subst (λ z. IsNearest (pos a) (pos den) (pos z)) same (lower-nearest (omega arith) (λ k. omega arith))
+      go (inr t) =
+          let same : suc q ≡ q + q % 2 = omega arith in
+          subst (λ z. IsNearest (pos a) (pos den) (pos z)) same (upper-nearest (omega arith) (λ k. omega arith))
+
+  quotient-nearest : IsNearest (pos a) (pos den) (pos (nearestSteps q rest den))
+  unfolding nearestSteps
+  quotient-nearest = go (ltb (2 * rest) den) refl (ltb den (2 * rest)) refl
+    where
+      go :
+          (s : Bool) → ltb (2 * rest) den ≡ s → (t : Bool) → ltb den (2 * rest) ≡ t
+          → IsNearest (pos a) (pos den) (pos (cond s q (cond t (suc q) (q + q % 2))))
+      go true i t j = less-nearest (ltb-true (2 * rest) den i)
+      go false i true j = more-nearest (ltb-true den (2 * rest) j)
+      go false i false j = half-nearest (omega (arith, ltb-false (2 * rest) den i, ltb-false den (2 * rest) j))
 
 -- ---- a number of steps
 
--- quotient q and remainder m of a by den, with no sign and behind a minus sign
-module _ (a den q m : ℕ) (e : den * q + m ≡ a) (h : m < den) where
-  quotient-floor : Floor (pos a) (pos den) (pos q)
-  quotient-floor = (simp linear (omega arith), simp linear (omega arith))
+-- the same on both sides of 0
+nearest-opposite : (a d z : ℤ) → IsNearest a d z → IsNearest (neg a) d (neg z)
+nearest-opposite a d z h =
+    let same : neg a ⊖ neg z ⊗ d ≡ neg (a ⊖ z ⊗ d) =
+    solve (:neg (var 0) :- :neg (var 2) :* var 1) (:neg (var 0 :- var 2 :* var 1)) (a ∷ d ∷ z ∷ []) refl in
+    record { near = rw (same, natAbs-neg (a ⊖ z ⊗ d)) (h .near); even = rw (same, natAbs-neg (a ⊖ z ⊗ d), natAbs-neg z) (h .even) }
 
-  minus-floor : Floor (negsuc a) (pos den) (negsuc q)
-  minus-floor = (simp linear (omega arith), simp linear (omega arith))
+pub round-nearest : (num : ℤ) (den : ℕ) → 0 < den → IsNearest num (pos den) (roundSteps num den)
+unfolding roundSteps neg
+round-nearest (pos a) den h =
+    let m : a % den < den = mod-lt a h in quotient-nearest a den (a / den) (a % den) (div-add-mod a den) (omega arith)
+round-nearest (negsuc a) den h =
+    let m : suc a % den < den = mod-lt (suc a) h in
+    nearest-opposite (pos (suc a)) (pos den) (pos (nearestSteps (suc a / den) (suc a % den) den))
+    (quotient-nearest (suc a) den (suc a / den) (suc a % den) (div-add-mod (suc a) den) (omega arith))
 
-pub round-floor : (num : ℤ) (den : ℕ) → 0 < den → Floor num (pos den) (roundSteps num den)
-unfolding roundSteps
-round-floor (pos a) den h = quotient-floor a den (a / den) (a % den) (div-add-mod a den) (mod-lt a h)
-round-floor (negsuc a) den h = minus-floor a den (a / den) (a % den) (div-add-mod a den) (mod-lt a h)
+-- ---- there is one nearest number
+
+-- a difference is even exactly if the sum is
+diff-parity : (z : ℤ) (a b : ℕ) → z ≡ diff a b → natAbs z % 2 ≡ (a + b) % 2
+diff-parity (pos n) a b h = omega (arith, diff-eq n 0 a b .0 (sym (pos-diff n) ∙ h))
+diff-parity (negsuc n) a b h = omega (arith, diff-eq 0 (suc n) a b .0 (sym (negsuc-diff n) ∙ h))
+
+add-parity : (a b : ℤ) → natAbs (a ⊕ b) % 2 ≡ (natAbs a + natAbs b) % 2
+add-parity a b =
+    let e : a ⊕ b ≡ diff (up a + up b) (down a + down b) = ap₂ _⊕_ (split a) (split b) ∙ diff-add (up a) (down a) (up b) (down b) in
+    omega (
+      arith,
+      diff-parity (a ⊕ b) (up a + up b) (down a + down b) e,
+      diff-parity a (up a) (down a) (split a),
+      diff-parity b (up b) (down b) (split b),
+    )
+
+-- a number times d is no larger than a and what is left of a
+multiple-size : (a d z : ℤ) → natAbs z * natAbs d ≤ natAbs a + natAbs (a ⊖ z ⊗ d)
+multiple-size a d z =
+    let same : a ⊕ neg (a ⊖ z ⊗ d) ≡ z ⊗ d = solve (var 0 :+ :neg (var 0 :- var 2 :* var 1)) (var 2 :* var 1) (a ∷ d ∷ z ∷ []) refl in
+    omega (arith, natAbs-mul z d, ap natAbs same, natAbs-add a (neg (a ⊖ z ⊗ d)), natAbs-neg (a ⊖ z ⊗ d))
+
+size-zero : (z : ℤ) → natAbs z ≡ 0 → z ≡ 0ℤ
+size-zero (pos n) h = ap pos h
+size-zero (negsuc n) h = absurd (omega arith)
+
+size-positive : (d : ℤ) → d ≢ 0ℤ → 0 < natAbs d
+size-positive (pos zero) h = absurd (h refl)
+size-positive (pos (suc n)) h = omega arith
+size-positive (negsuc n) h = omega arith
+
+-- two of them are less than two apart, and if they were one apart, both were even
+pub nearest-unique : (a d z w : ℤ) → d ≢ 0ℤ → IsNearest a d z → IsNearest a d w → z ≡ w
+nearest-unique a d z w nonzero h k =
+    sym (add-zero z) ∙ ap (λ t. z ⊕ t) (sym (size-zero apart none)) ∙ sym step
+  where
+    apart : ℤ
+    apart = w ⊖ z
+
+    step : w ≡ z ⊕ (w ⊖ z)
+    step = solve (var 1) (var 0 :+ (var 1 :- var 0)) (z ∷ w ∷ []) refl
+
+    left : a ⊖ z ⊗ d ⊖ (w ⊖ z) ⊗ d ≡ a ⊖ w ⊗ d
+    left = solve (var 0 :- var 2 :* var 1 :- (var 3 :- var 2) :* var 1) (var 0 :- var 3 :* var 1) (a ∷ d ∷ z ∷ w ∷ []) refl
+
+    sizes : natAbs (w ⊖ z) * natAbs d ≤ natAbs (a ⊖ z ⊗ d) + natAbs (a ⊖ w ⊗ d)
+    sizes = omega (arith, multiple-size (a ⊖ z ⊗ d) d (w ⊖ z), ap natAbs left)
+
+    few : natAbs (w ⊖ z) ≤ 1
+    few = le-of-mul-le-mul-right {k = natAbs d} (omega (arith, sizes, h .near, k .near)) (size-positive d nonzero)
+
+    odd : natAbs (w ⊖ z) ≡ 1 → ⊥
+    odd one =
+        let whole : natAbs (w ⊖ z) * natAbs d ≡ natAbs d = ap (λ t. t * natAbs d) one ∙ omega arith in
+        let z-even : natAbs z % 2 ≡ 0 = h .even (omega (arith, sizes, whole, h .near, k .near)) in
+        let w-even : natAbs w % 2 ≡ 0 = k .even (omega (arith, sizes, whole, h .near, k .near)) in
+        omega (arith, one, z-even, w-even, add-parity z (w ⊖ z), ap natAbs step)
+
+    none : natAbs (w ⊖ z) ≡ 0
+    none = omega (arith, few, odd)
+
+-- ---- whole units
+
+-- an even number of steps more; an odd one would not do, since a half is 0 steps and one and a half are 2
+nearest-add : (j a d z : ℤ) → IsNearest a d z → IsNearest ((j ⊕ j) ⊗ d ⊕ a) d (j ⊕ j ⊕ z)
+nearest-add j a d z h =
+    let same : (j ⊕ j) ⊗ d ⊕ a ⊖ (j ⊕ j ⊕ z) ⊗ d ≡ a ⊖ z ⊗ d =
+    solve ((var 0 :+ var 0) :* var 2 :+ var 1 :- (var 0 :+ var 0 :+ var 3) :* var 2) (var 1 :- var 3 :* var 2) (j ∷ a ∷ d ∷ z ∷ []) refl in
+    record {
+      near = rw same (h .near);
+      even = rw same (λ k. let even : natAbs z % 2 ≡ 0 = h .even k in omega (arith, even, add-parity (j ⊕ j) z, add-parity j j));
+    }
+
+-- a unit has an even number of steps
+unit-even : (k : ℤ) → pos stepsPerUnit ⊗ k ≡ pos 512 ⊗ k ⊕ pos 512 ⊗ k
+unfolding stepsPerUnit
+unit-even k = solve (con (pos 1024) :* var 0) (con (pos 512) :* var 0 :+ con (pos 512) :* var 0) (k ∷ []) refl
+
+nearest-unit : (k a d z : ℤ) → IsNearest a d z → IsNearest (pos stepsPerUnit ⊗ k ⊗ d ⊕ a) d (pos stepsPerUnit ⊗ k ⊕ z)
+nearest-unit k a d z h =
+    subst (λ u. IsNearest (u ⊗ d ⊕ a) d (u ⊕ z)) (sym (unit-even k)) (nearest-add (pos 512 ⊗ k) a d z h)
+
+pos-nonzero : (n : ℕ) → 0 < n → pos n ≢ 0ℤ
+pos-nonzero n h e = let z : n ≡ 0 = cc in omega arith
+
+-- k whole units more are 1024 · k steps more
+pub round-moves :
+    (k num : ℤ) (den : ℕ) → 0 < den → roundSteps (pos stepsPerUnit ⊗ k ⊗ pos den ⊕ num) den ≡ pos stepsPerUnit ⊗ k ⊕ roundSteps num den
+round-moves k num den h =
+    nearest-unique (pos stepsPerUnit ⊗ k ⊗ pos den ⊕ num) (pos den) _ _ (pos-nonzero den h)
+    (round-nearest (pos stepsPerUnit ⊗ k ⊗ pos den ⊕ num) den h)
+    (nearest-unit k num (pos den) (roundSteps num den) (round-nearest num den h))
+
+-- ---- a share
+
+pub natAbs-overSize : (num d : ℤ) → natAbs (overSize num d) ≡ natAbs num
+unfolding overSize
+natAbs-overSize num (pos d) = refl
+natAbs-overSize num (negsuc d) = natAbs-neg num
+
+share-nearest : (num d : ℤ) → 0 < natAbs d → IsNearest (pos stepsPerUnit ⊗ overSize num d) (pos (natAbs d)) (shareSteps num d)
+unfolding shareSteps
+share-nearest num d h = round-nearest (pos stepsPerUnit ⊗ overSize num d) (natAbs d) h
+
+-- what is nearest to 1024 · num / den is the share's number of steps
+pub share-only : (num den : ℕ) (z : ℤ) → 0 < den → IsNearest (pos (stepsPerUnit * num)) (pos den) z → z ≡ shareSteps (pos num) (pos den)
+unfolding overSize _⊗_
+share-only num den z h near =
+    nearest-unique (pos (stepsPerUnit * num)) (pos den) z (shareSteps (pos num) (pos den)) (pos-nonzero den h) near
+    (share-nearest (pos num) (pos den) h)
+
+-- a share of at most a unit has at most 1024 steps
+pub share-few : (num d : ℤ) → 0 < natAbs d → natAbs num ≤ natAbs d → Size stepsPerUnit (shareSteps num d)
+unfolding stepsPerUnit
+share-few num d p l =
+    let near = share-nearest num d p .near in
+    let size = multiple-size (pos stepsPerUnit ⊗ overSize num d) (pos (natAbs d)) (shareSteps num d) in
+    let product = natAbs-mul (pos stepsPerUnit) (overSize num d) in
+    let twice : 2 * natAbs (shareSteps num d) ≤ 2049 =
+    le-of-mul-le-mul-right {k = natAbs d} (omega (arith, near, size, product, natAbs-overSize num d, l)) p in
+    record { size = omega (arith, twice) }
 
 -- ---- a coordinate
 
--- whole steps added are added to the floor
-floor-add : (k a r : ℤ) (d : ℕ) → Floor a (pos d) r → Floor (k ⊗ pos d ⊕ a) (pos d) (k ⊕ r)
-floor-add k a r d = rw (split k, split a, split r) (simp linear (λ h. (omega (arith, h .0), omega (arith, h .1))))
-
--- numerator and denominator with the opposite sign: the same fraction
-floor-opposite : (a z : ℤ) (d : ℕ) → Floor a (pos (suc d)) z → Floor (neg a) (negsuc d) z
-floor-opposite a z d = rw (split a, split z) (simp linear (λ h. (omega (arith, h .0), omega (arith, h .1))))
-
--- over the size of d
-size-floor :
-    (low num d : ℤ) → 0 < natAbs d
-    → Floor (pos stepsPerUnit ⊗ (low ⊗ pos (natAbs d) ⊕ overSize num d)) (pos (natAbs d)) (coordinateSteps low num d)
-unfolding coordinateSteps
-size-floor low num d h =
+-- the definition rounds the share; the whole coordinate, rounded, is the same
+pub coordinate-whole :
+    (low num d : ℤ) → d ≢ 0ℤ
+    → coordinateSteps low num d ≡ roundSteps (pos stepsPerUnit ⊗ (low ⊗ pos (natAbs d) ⊕ overSize num d)) (natAbs d)
+unfolding coordinateSteps shareSteps
+coordinate-whole low num d h =
     let u : ℤ = pos stepsPerUnit in
     let same : u ⊗ low ⊗ pos (natAbs d) ⊕ u ⊗ overSize num d ≡ u ⊗ (low ⊗ pos (natAbs d) ⊕ overSize num d) =
     solve (var 0 :* var 1 :* var 2 :+ var 0 :* var 3) (var 0 :* (var 1 :* var 2 :+ var 3)) (u ∷ low ∷ pos (natAbs d) ∷ overSize num d ∷ []) refl in
-    subst (λ a. Floor a (pos (natAbs d)) (coordinateSteps low num d)) same
-    (floor-add (u ⊗ low) (u ⊗ overSize num d) (roundSteps (u ⊗ overSize num d) (natAbs d)) (natAbs d) (round-floor (u ⊗ overSize num d) (natAbs d) h))
+    sym (round-moves low (u ⊗ overSize num d) (natAbs d) (size-positive d h)) ∙ ap (λ a. roundSteps a (natAbs d)) same
 
--- 1024 · (low · d + num) for a d under 0
-both-opposite : (u low num : ℤ) (d : ℕ) → neg (u ⊗ (low ⊗ pos (suc d) ⊕ neg num)) ≡ u ⊗ (low ⊗ negsuc d ⊕ num)
-both-opposite u low num d = rw (split u, split low, split num) (simp linear (omega arith))
+-- k whole units more are 1024 · k steps more
+pub coordinate-moves : (k low num d : ℤ) → coordinateSteps (k ⊕ low) num d ≡ pos stepsPerUnit ⊗ k ⊕ coordinateSteps low num d
+unfolding coordinateSteps
+coordinate-moves k low num d =
+    solve (var 0 :* (var 1 :+ var 2) :+ var 3) (var 0 :* var 1 :+ (var 0 :* var 2 :+ var 3)) (pos stepsPerUnit ∷ k ∷ low ∷ shareSteps num d ∷ []) refl
 
--- the coordinate is the floor of 1024 · (low + num / d), for a d of either sign
-pub coordinate-floor : (low num d : ℤ) → d ≢ 0ℤ → Floor (pos stepsPerUnit ⊗ (low ⊗ d ⊕ num)) d (coordinateSteps low num d)
-unfolding overSize
-coordinate-floor low num (pos zero) h = absurd (h refl)
-coordinate-floor low num (pos (suc d)) h = size-floor low num (pos (suc d)) (omega arith)
-coordinate-floor low num (negsuc d) h =
-    subst (λ a. Floor a (negsuc d) (coordinateSteps low num (negsuc d))) (both-opposite (pos stepsPerUnit) low num d)
-    (floor-opposite _ _ d (size-floor low num (negsuc d) (omega arith)))
+-- numerator and denominator with the opposite sign: the same fraction
+nearest-turned : (a d z : ℤ) → IsNearest a d z → IsNearest (neg a) (neg d) z
+nearest-turned a d z h =
+    let same : neg a ⊖ z ⊗ neg d ≡ neg (a ⊖ z ⊗ d) =
+    solve (:neg (var 0) :- var 2 :* :neg (var 1)) (:neg (var 0 :- var 2 :* var 1)) (a ∷ d ∷ z ∷ []) refl in
+    let size = natAbs-neg (a ⊖ z ⊗ d) in
+    record { near = rw (same, size, natAbs-neg d) (h .near); even = rw (same, size, natAbs-neg d) (h .even) }
 
--- ---- there is one floor
+-- over the size of d
+size-nearest :
+    (low num d : ℤ) → d ≢ 0ℤ
+    → IsNearest (pos stepsPerUnit ⊗ (low ⊗ pos (natAbs d) ⊕ overSize num d)) (pos (natAbs d)) (coordinateSteps low num d)
+size-nearest low num d h =
+    subst (IsNearest (pos stepsPerUnit ⊗ (low ⊗ pos (natAbs d) ⊕ overSize num d)) (pos (natAbs d))) (sym (coordinate-whole low num d h))
+    (round-nearest (pos stepsPerUnit ⊗ (low ⊗ pos (natAbs d) ⊕ overSize num d)) (natAbs d) (size-positive d h))
 
--- of two multiples of d, the smaller is that of the smaller number
-multiple-below : (x y : ℤ) (d : ℕ) → x ⊗ pos d <ℤ y ⊗ pos d → x <ℤ y
-multiple-below x y d =
-    rw (split x, split y) (simp linear (λ h. lt-of-mul-lt-mul-right d {m = up x + down y} {n = up y + down x} (omega (arith, h))))
-
-between-equal : (z w : ℤ) → z <ℤ w ⊕ 1ℤ → w <ℤ z ⊕ 1ℤ → z ≡ w
-between-equal z w = rw (split z, split w) (simp linear (omega arith))
-
-le-lt : (x y z : ℤ) → x ≤ℤ y → y <ℤ z → x <ℤ z
-le-lt x y z = rw (split x, split y, split z) (simp linear (omega arith))
-
-turn-below : (x y z : ℤ) (d : ℕ) → (y ⊕ 1ℤ) ⊗ negsuc d <ℤ z → z ≤ℤ x ⊗ negsuc d → x ⊗ pos (suc d) <ℤ (y ⊕ 1ℤ) ⊗ pos (suc d)
-turn-below x y z d = rw (split x, split y, split z) (simp linear (omega arith))
-
-pub floor-unique : (a d z w : ℤ) → Floor a d z → Floor a d w → z ≡ w
-floor-unique a (pos d) z w h k =
-    between-equal z w
-    (multiple-below z (w ⊕ 1ℤ) d (le-lt _ a _ (h .0) (k .1)))
-    (multiple-below w (z ⊕ 1ℤ) d (le-lt _ a _ (k .0) (h .1)))
-floor-unique a (negsuc d) z w h k =
-    between-equal z w
-    (multiple-below z (w ⊕ 1ℤ) (suc d) (turn-below z w a d (k .1) (h .0)))
-    (multiple-below w (z ⊕ 1ℤ) (suc d) (turn-below w z a d (h .1) (k .0)))
+-- the coordinate is the nearest to 1024 · (low + num / d), for a d of either sign
+pub coordinate-nearest : (low num d : ℤ) → d ≢ 0ℤ → IsNearest (pos stepsPerUnit ⊗ (low ⊗ d ⊕ num)) d (coordinateSteps low num d)
+unfolding overSize neg
+coordinate-nearest low num (pos d) h = size-nearest low num (pos d) h
+coordinate-nearest low num (negsuc d) h =
+    let u : ℤ = pos stepsPerUnit in
+    let same : neg (u ⊗ (low ⊗ pos (suc d) ⊕ neg num)) ≡ u ⊗ (low ⊗ neg (pos (suc d)) ⊕ num) =
+    solve (:neg (var 0 :* (var 1 :* var 2 :+ :neg (var 3)))) (var 0 :* (var 1 :* :neg (var 2) :+ var 3)) (u ∷ low ∷ pos (suc d) ∷ num ∷ []) refl in
+    subst (λ a. IsNearest a (negsuc d) (coordinateSteps low num (negsuc d))) same
+    (nearest-turned (u ⊗ (low ⊗ pos (suc d) ⊕ neg num)) (pos (suc d)) (coordinateSteps low num (negsuc d)) (size-nearest low num (negsuc d) h))
 
 -- ---- a point
 
@@ -116,21 +290,29 @@ module _ (n : ℕ) (cs : List Column) (ms : List ℕ) where
       let same : a ≡ b = omega arith in ap (λ c. coordinateSteps x (weightSum n cs 1 ms c) (determinant n cs)) same
   coordinate-at a b (x ∷ v) (suc k) h e = coordinate-at (suc a) b v k (omega arith) (omega arith)
 
--- D, and the sum of the weights, times D, of those vertices whose mask has axis k
-abbrev pub facetD : ℕ → Field → Facet → ℤ
-facetD n φ f = determinant n (columns φ (facetVertices f))
+-- D of a crossed facet is not 0
+pub crossed-d : (n : ℕ) (φ : Field) (f : Facet) → crossedFacet n φ f ≡ true → facetD n φ f ≢ 0ℤ
+unfolding crossedFacet facetD
+crossed-d n φ f x e = crossed-nonzero n (columns φ (facetVertices f)) x (ap sign e ∙ sign-zero)
 
-abbrev pub weightsOn : ℕ → Field → Facet → ℕ → ℤ
-weightsOn n φ f k = weightSum n (columns φ (facetVertices f)) 1 (f .masks) k
-
--- the point of a crossed facet: on each axis the floor of 1024 · (the lowest vertex's coordinate + the sum of weights)
-pub point-floor :
+-- the point of a crossed facet: on each axis the nearest to the exact coordinate
+pub point-nearest :
     (n : ℕ) (φ : Field) (f : Facet) → crossedFacet n φ f ≡ true → (k : ℕ) → k < length (f .low)
-    → Floor (pos stepsPerUnit ⊗ (getD (f .low) k 0ℤ ⊗ facetD n φ f ⊕ weightsOn n φ f k)) (facetD n φ f) (getD (pointOf n φ f) k 0ℤ)
-unfolding crossedFacet pointOf
-point-floor n φ f x k h =
+    → IsNearest (exactSteps n φ f k) (facetD n φ f) (getD (pointOf n φ f) k 0ℤ)
+unfolding facetD exactSteps pointOf
+point-nearest n φ f x k h =
     let cs : List Column = columns φ (facetVertices f) in
-    let nonzero : determinant n cs ≢ 0ℤ = λ e. crossed-nonzero n cs x (ap sign e ∙ sign-zero) in
-    subst (Floor (pos stepsPerUnit ⊗ (getD (f .low) k 0ℤ ⊗ determinant n cs ⊕ weightSum n cs 1 (f .masks) k)) (determinant n cs))
+    subst (IsNearest (pos stepsPerUnit ⊗ (getD (f .low) k 0ℤ ⊗ determinant n cs ⊕ weightSum n cs 1 (f .masks) k)) (determinant n cs))
     (sym (coordinate-at n cs (f .masks) 0 k (f .low) k h (omega arith)))
-    (coordinate-floor (getD (f .low) k 0ℤ) (weightSum n cs 1 (f .masks) k) (determinant n cs) nonzero)
+    (coordinate-nearest (getD (f .low) k 0ℤ) (weightSum n cs 1 (f .masks) k) (determinant n cs) (crossed-d n φ f x))
+
+-- and so is what Point answers, from the bytes that it is handed
+pub pointed-nearest :
+    (s p : List ℕ) (v : List ℤ) → pointed s p ≡ answered v → (k : ℕ) → k < dimension s
+    → IsNearest (exactSteps (dimension s) (fieldOf s) (facetOf s p) k) (facetD (dimension s) (fieldOf s) (facetOf s p)) (getD v k 0ℤ)
+unfolding pointed pointRefusal crossedIn facetOf
+pointed-nearest s p v e k h =
+    let a = answered-inv (pointRefusal s p) (pointOf (dimension s) (fieldOf s) (facetOf s p)) v e in
+    let r11 = not-refused _ 11 _ (omega arith) (neither-refused _ _ (a .none) .next) in
+    subst (λ w. IsNearest (exactSteps (dimension s) (fieldOf s) (facetOf s p) k) (facetD (dimension s) (fieldOf s) (facetOf s p)) (getD w k 0ℤ)) (a .is)
+    (point-nearest (dimension s) (fieldOf s) (facetOf s p) (not-false _ (r11 .test)) k (omega (arith, decoded-low-length (dimension s) p, h)))

@@ -12,3 +12,4 @@ pub mod Demand3
 pub mod Bias
 pub mod RunningSum
 pub mod AnyOrder
+pub mod Nearest

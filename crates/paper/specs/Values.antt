@@ -1,9 +1,9 @@
--- Values at vertices, readable values and points: document 01, section "Crossed", and the bias of request 2.7.
-use Prim.Native.Nat.{ℕ, suc, zero, _+_, _-_, _/_, _%_, _^_}
+-- Values at vertices, readable values and points: document 01, section "Crossed", the bias of request 2.7 and the rounding of request 2.5.
+use Prim.Native.Nat.{ℕ, suc, zero, _+_, _*_, _-_, _/_, _%_, _^_}
 use mathlib.Core.Bool.{Bool, true, cond, _&&_}
 use mathlib.Core.List.{List, [], _∷_, map}
 use lib.IntN.{ℤ, pos, negsuc, natAbs}
-use lib.Dec.{leb, eqb}
+use lib.Dec.{leb, ltb, eqb}
 use lib.Signed.{leZ}
 use Rattle.exact.specs.Int.{_⊕_, _⊗_, neg, power, 0ℤ, 1ℤ}
 use Rattle.exact.specs.Det.{Column, determinant}
@@ -65,10 +65,14 @@ fieldOf s = fieldFrom (dimension s) (bias s) (body s 0) (sums s)
 
 -- ---- points
 
--- a number of steps num / den, rounded down
+-- q steps and rest / den of a step, as a number of steps: less than a half goes down, more goes up, and a half goes to the even count
+unfoldable pub nearestSteps : ℕ → ℕ → ℕ → ℕ
+nearestSteps q rest den = cond (ltb (2 * rest) den) q (cond (ltb den (2 * rest)) (suc q) (q + q % 2))
+
+-- a number of steps num / den, rounded to the nearest, a half to the even count; the same on both sides of 0
 unfoldable pub roundSteps : ℤ → ℕ → ℤ
-roundSteps (pos a) den = pos (a / den)
-roundSteps (negsuc a) den = negsuc (a / den)
+roundSteps (pos a) den = pos (nearestSteps (a / den) (a % den) den)
+roundSteps (negsuc a) den = neg (pos (nearestSteps (suc a / den) (suc a % den) den))
 
 -- a mask has the axis a
 unfoldable pub hasAxis : ℕ → ℕ → Bool
@@ -84,10 +88,13 @@ unfoldable pub overSize : ℤ → ℤ → ℤ
 overSize num (pos d) = num
 overSize num (negsuc d) = neg num
 
--- 1024 times the lowest vertex's coordinate, plus 1024 times the sum of the weights a_i / D, rounded down
+-- the share num / d of a unit in steps, rounded
+unfoldable pub shareSteps : ℤ → ℤ → ℤ
+shareSteps num d = roundSteps (pos stepsPerUnit ⊗ overSize num d) (natAbs d)
+
+-- 1024 times the lowest vertex's coordinate, plus the steps of the share that is the sum of the weights a_i / D
 unfoldable pub coordinateSteps : ℤ → ℤ → ℤ → ℤ
-coordinateSteps low num d =
-    pos stepsPerUnit ⊗ low ⊕ roundSteps (pos stepsPerUnit ⊗ overSize num d) (natAbs d)
+coordinateSteps low num d = pos stepsPerUnit ⊗ low ⊕ shareSteps num d
 
 -- the point's coordinates from axis a on; the lowest vertex has mask 0, so vertex 0 has no part in a sum
 unfoldable pub pointFrom : ℕ → List Column → List ℕ → ℕ → Vertex → List ℤ

@@ -1,17 +1,16 @@
 -- A point that is not refused is small: its facet lies in the box, and each coordinate is at most one unit above the lowest vertex's, so it is at
 -- most 1024 · 257 steps in size. Over any number of axes.
-use Prim.Native.Nat.{ℕ, suc, zero, _+_, _*_, _/_, _≤_, _<_}
-use native.Mathlib.Nat.{div-le-of-le-mul}
+use Prim.Native.Nat.{ℕ, suc, zero, _+_, _*_, _<_}
 use native.Mathlib.Omega.{arith}
 use mathlib.Core.Path.{_≡_, refl, sym, ap, subst, _∙_}
 use mathlib.Core.Bool.{true}
 use mathlib.Core.List.{List, [], _∷_, map}
-use lib.IntN.{ℤ, pos, natAbs}
+use lib.IntN.{ℤ, natAbs}
 use lib.ListN.{length, getD, length-map}
 use lib.Dec.{eqb}
 use borrow.Author.Tests.{leb-true, not-false}
 use Rattle.exact.proofs.AndTests.{and-left, and-right, and-true}
-use Rattle.exact.specs.Int.{_⊗_, 0ℤ, 1ℤ}
+use Rattle.exact.specs.Int.{0ℤ, 1ℤ}
 use Rattle.exact.specs.Size.{Size}
 use Rattle.exact.specs.Det.{Column, determinant}
 use Rattle.exact.proofs.SizeLaws.{size-pos, size-add, size-mul}
@@ -22,7 +21,7 @@ use Rattle.curves.proofs.IncidenceOf.{place-formed, place-dimension}
 use Rattle.paper.specs.Limits.{coordinateLimit, stepsPerUnit}
 use Rattle.paper.specs.Job.{dimension, decodePlace}
 use Rattle.paper.proofs.ShortPlaces.{limited}
-use Rattle.paper.specs.Values.{fieldOf, roundSteps, weightSum, overSize, coordinateSteps, pointFrom, pointOf}
+use Rattle.paper.specs.Values.{fieldOf, weightSum, coordinateSteps, pointFrom, pointOf}
 use Rattle.paper.specs.Operations.{facetRefusal, crossedIn, placeBad, facetOf, judgeRefusal, pointRefusal}
 use Rattle.paper.specs.Answers.{padded}
 use Rattle.paper.proofs.Refusals.{neither-refused, not-refused}
@@ -30,7 +29,7 @@ use Rattle.paper.proofs.Opens.{Opens, opens}
 use Rattle.paper.proofs.StartTraceable.{traceable-limited}
 use Rattle.points.specs.Shares.{Share}
 use Rattle.points.proofs.Shares.{crossed-share}
-use Rattle.points.proofs.Rounded.{share-is, share-most}
+use Rattle.points.proofs.Rounded.{share-size}
 
 -- ---- what Point does not refuse
 
@@ -61,15 +60,9 @@ point-accepted s p h =
 unfoldable pub stepLimit : ℕ
 stepLimit = stepsPerUnit * coordinateLimit + stepsPerUnit
 
-share-steps : (num d : ℤ) → Share num d → Size stepsPerUnit (roundSteps (pos stepsPerUnit ⊗ overSize num d) (natAbs d))
-unfolding roundSteps _⊗_ stepsPerUnit
-share-steps num d h =
-    let few : 1024 * natAbs num / natAbs d ≤ 1024 = div-le-of-le-mul (natAbs d) (omega (arith, share-most num d h)) in
-    subst (λ z. Size 1024 (roundSteps (pos 1024 ⊗ z) (natAbs d))) (sym (share-is num d h)) (record { size = few })
-
 coordinate-size : (low num d : ℤ) → Size coordinateLimit low → Share num d → Size stepLimit (coordinateSteps low num d)
 unfolding coordinateSteps stepLimit
-coordinate-size low num d s h = size-add (size-mul (size-pos stepsPerUnit) s) (share-steps num d h)
+coordinate-size low num d s h = size-add (size-mul (size-pos stepsPerUnit) s) (share-size num d h)
 
 -- ---- a list of coordinates
 

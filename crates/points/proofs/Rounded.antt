@@ -1,25 +1,20 @@
 -- What `coordinate` computes: the share num / d lies from 0 to 1, so the steps are 0 to 1024, and the sum is the definition's coordinate.
-use Prim.Native.Nat.{ℕ, _*_, _/_, _≤_, _<_}
+use Prim.Native.Nat.{ℕ, _≤_, _<_}
 use mathlib.Core.Path.{_≡_, refl, sym, ap, ap₂, _∙_, subst}
 use native.Mathlib.Omega.{arith}
-use native.Mathlib.Nat.{div-le-of-le-mul}
-use lib.IntN.{ℤ, pos, negsuc, natAbs, _+ℤ_, _*ℤ_}
+use lib.IntN.{ℤ, pos, natAbs, _+ℤ_, _*ℤ_}
 use lib.Dec.{lit≤, leb→le}
 use lib.Signed.{_≤ℤ_, pos-natAbs, yes-nonNeg}
 use mir.Syntax.{w64}
 use mir.Val.{SFits, toZ}
 use Rattle.exact.specs.Int.{_⊕_, _⊗_}
 use Rattle.exact.specs.Size.{Size, Is}
-use Rattle.exact.proofs.SizeLaws.{natAbs-neg, size-weaken, size-pos, size-add, size-mul, size-fits-64}
+use Rattle.exact.proofs.SizeLaws.{size-weaken, size-pos, size-add, size-mul, size-fits-64}
 use Rattle.exact.proofs.Bits.{holds, back, back-is, back-size, fits-add, fits-mul, holds-add, holds-mul}
 use Rattle.paper.specs.Limits.{stepsPerUnit}
-use Rattle.paper.specs.Values.{roundSteps, overSize, coordinateSteps}
+use Rattle.paper.specs.Values.{roundSteps, overSize, shareSteps, coordinateSteps}
+use Rattle.paper.proofs.Rounding.{natAbs-overSize, share-few}
 use Rattle.points.specs.Shares.{Share, denominatorLimit, lowLimit, stepsLimit}
-
-natAbs-overSize : (num d : ℤ) → natAbs (overSize num d) ≡ natAbs num
-unfolding overSize
-natAbs-overSize num (pos d) = refl
-natAbs-overSize num (negsuc d) = natAbs-neg num
 
 pos-le : (a b : ℕ) → pos a ≤ℤ pos b → a ≤ b
 pos-le a b h = leb→le a b (h .le)
@@ -31,6 +26,14 @@ share-is num d sh = sym (pos-natAbs (overSize num d) (yes-nonNeg (sh .least))) �
 pub share-most : (num d : ℤ) → Share num d → natAbs num ≤ natAbs d
 share-most num d sh = pos-le (natAbs num) (natAbs d) (subst (λ z. z ≤ℤ pos (natAbs d)) (share-is num d sh) (sh .most))
 
+pub share-size : (num d : ℤ) → Share num d → Size stepsPerUnit (shareSteps num d)
+share-size num d sh = share-few num d (sh .nonzero) (share-most num d sh)
+
+-- the share of the sizes is the share
+sizes-steps : (num d : ℤ) → Share num d → shareSteps (pos (natAbs num)) (pos (natAbs d)) ≡ shareSteps num d
+unfolding shareSteps overSize
+sizes-steps num d sh = ap (λ z. roundSteps (pos stepsPerUnit ⊗ z) (natAbs d)) (sym (share-is num d sh))
+
 module _ {low num d : ℤ} (pre : Size lowLimit low × (Size denominatorLimit d × Share num d)) where
   most : natAbs num ≤ natAbs d
   most = share-most num d (pre .1 .1)
@@ -38,18 +41,9 @@ module _ {low num d : ℤ} (pre : Size lowLimit low × (Size denominatorLimit d 
   num-size : Size denominatorLimit num
   num-size = record { size = omega (arith, most, pre .1 .0 .size) }
 
-  few : stepsPerUnit * natAbs num / natAbs d ≤ 1024
-  unfolding stepsPerUnit
-  few = div-le-of-le-mul (natAbs d) (omega (arith, most))
-
-  rounded : roundSteps (pos stepsPerUnit ⊗ overSize num d) (natAbs d) ≡ pos (stepsPerUnit * natAbs num / natAbs d)
-  unfolding roundSteps _⊗_
-  rounded = ap (λ z. roundSteps (pos stepsPerUnit ⊗ z) (natAbs d)) (share-is num d (pre .1 .1))
-
   pub coordinate-size : Size stepsLimit (coordinateSteps low num d)
   unfolding coordinateSteps stepsPerUnit
-  coordinate-size =
-      size-weaken (size-add (size-mul (size-pos 1024) (pre .0)) (subst (Size 1024) (sym rounded) (size-weaken (size-pos _) few))) (lit≤ tt)
+  coordinate-size = size-weaken (size-add (size-mul (size-pos 1024) (pre .0)) (share-size num d (pre .1 .1))) (lit≤ tt)
 
   -- ---- what the callees are asked
   pub asks-num : Size denominatorLimit (back num)
@@ -70,12 +64,13 @@ module _ {low num d : ℤ} (pre : Size lowLimit low × (Size denominatorLimit d 
         rw (a-is, den-is) (pre .1 .1 .nonzero, (most, omega (arith, pre .1 .0 .size)))
 
     -- ---- what they give
-    module _ {r : ℕ} (er : r ≡ stepsPerUnit * a / den) where
-      steps-is : r ≡ stepsPerUnit * natAbs num / natAbs d
-      steps-is = er ∙ ap₂ (λ x y. stepsPerUnit * x / y) a-is den-is
+    module _ {r : ℕ} (er : pos r ≡ shareSteps (pos a) (pos den)) where
+      steps-is : pos r ≡ shareSteps num d
+      steps-is = er ∙ ap₂ (λ x y. shareSteps (pos x) (pos y)) a-is den-is ∙ sizes-steps num d (pre .1 .1)
 
       steps-size : Size 1024 (pos r)
-      steps-size = record { size = omega (arith, steps-is, few) }
+      unfolding stepsPerUnit
+      steps-size = subst (Size 1024) (sym steps-is) (share-size num d (pre .1 .1))
 
       pub fits-steps : SFits w64 (pos r)
       fits-steps = size-fits-64 (size-weaken steps-size (lit≤ tt))
@@ -93,4 +88,4 @@ module _ {low num d : ℤ} (pre : Size lowLimit low × (Size denominatorLimit d 
       unfolding coordinateSteps stepsPerUnit
       coordinate-is =
           holds-add (holds-mul unit-held (holds (pre .0) (lit≤ tt)) (lit≤ tt)) (holds steps-size (lit≤ tt)) (lit≤ tt) .is
-          ∙ ap (λ z. pos 1024 ⊗ low ⊕ z) (ap pos steps-is ∙ sym rounded)
+          ∙ ap (λ z. pos 1024 ⊗ low ⊕ z) steps-is

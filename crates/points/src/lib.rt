@@ -1,4 +1,4 @@
-// The point of a crossed facet: the sums of the weights, each rounded down to 1/1024.
+// The point of a crossed facet: the sums of the weights, each rounded to the nearest 1/1024.
 pub mod rounding;
 
 use bits::read::size;
@@ -6,7 +6,7 @@ use facets::determinants::coefficient;
 use facets::determinants::determinant;
 use paper::StepPoint;
 use places::HeldPlace;
-use rounding::round_steps;
+use rounding::share_steps;
 ghost use mathlib.Core.Path.{_≡_};
 ghost use mathlib.Core.Bool.{cond, true};
 ghost use mathlib.Core.List.{[], _∷_};
@@ -63,12 +63,12 @@ fn weight_sum(n: usize, p: HeldPlace, cells: &[i64; 15], axis: usize) -> i64
     sum
 }
 
-// One coordinate of the point: 1024 times the lowest vertex's, plus 1024 times the sum of weights, rounded down.
+// One coordinate of the point: 1024 times the lowest vertex's, plus the steps of the share that the weights make.
 pub fn coordinate(low: i64, num: i64, d: i64) -> i64
     requires { ⌜ (Size lowLimit low) × ((Size denominatorLimit d) × (Share num d)) ⌝ }
     ensures { λ r. ⌜ r ≡ coordinateSteps low num d ⌝ }
 {
-    let steps = round_steps(size(num), size(d));
+    let steps = share_steps(size(num), size(d));
     1024 * low + steps as i64
 }
 

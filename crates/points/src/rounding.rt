@@ -1,17 +1,15 @@
-// The rounding of a point: a number of steps of 1/1024, rounded down.
+// The rounding of a point: a share of a unit in steps of 1/1024, to the nearest, a half to the even count.
 ghost use mathlib.Core.Path.{_≡_};
-ghost use Prim.Native.Nat.{_*_, _/_, _<_, _≤_};
-ghost use Rattle.paper.specs.Limits.{stepsPerUnit};
+ghost use Prim.Native.Nat.{_<_, _≤_};
+ghost use lib.IntN.{pos};
+ghost use Rattle.paper.specs.Values.{shareSteps};
 ghost use Rattle.points.specs.Shares.{denominatorLimit};
 
-// 1024 · num / den, rounded down. The product may leave 64 bits, so the ten doublings of 1024 keep quotient and remainder.
-pub fn round_steps(num: u64, den: u64) -> u64
+// The steps of the share num / den. 1024 · num may leave 64 bits, so it is made by ten doublings that take den out as often as it goes in: steps times, and rest is left.
+pub fn share_steps(num: u64, den: u64) -> u64
     requires { ⌜ (0 < den) × ((num ≤ den) × (den ≤ denominatorLimit)) ⌝ }
-    ensures { λ r. ⌜ r ≡ stepsPerUnit * num / den ⌝ }
+    ensures { λ r. ⌜ pos r ≡ shareSteps (pos num) (pos den) ⌝ }
 {
-    if num == den {
-        return 1024;
-    }
     let mut steps: u64 = 0;
     let mut rest = num;
     for k in 0..10usize {
@@ -22,5 +20,11 @@ pub fn round_steps(num: u64, den: u64) -> u64
             rest -= den;
         }
     }
-    steps
+    if 2 * rest < den {
+        return steps;
+    }
+    if den < 2 * rest {
+        return steps + 1;
+    }
+    steps + steps % 2
 }

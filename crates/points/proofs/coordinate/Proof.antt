@@ -10,24 +10,24 @@ size-requires c κs = let h = asks-num (c .pre) .size in search needs
 size-requires-2 : tie.Need-size-requires-2
 size-requires-2 c κs = let h = asks-d (c .before .pre) .size in search needs
 
-round-steps-requires : tie.Need-round-steps-requires
-round-steps-requires c κs = asks-round (c .before .before .pre) (c .before .size .ensures) (c .size2 .ensures)
+share-steps-requires : tie.Need-share-steps-requires
+share-steps-requires c κs = asks-round (c .before .before .pre) (c .before .size .ensures) (c .size2 .ensures)
 
 mul-result : tie.Need-mul-result
 mul-result c =
-    fits-low (c .before .before .before .pre) (c .before .before .size .ensures) (c .before .size2 .ensures) (c .round-steps .ensures)
+    fits-low (c .before .before .before .pre) (c .before .before .size .ensures) (c .before .size2 .ensures) (c .share-steps .ensures)
 
 cast-result : tie.Need-cast-result
 cast-result c =
-    fits-steps (c .before .before .before .pre) (c .before .before .size .ensures) (c .before .size2 .ensures) (c .round-steps .ensures)
+    fits-steps (c .before .before .before .pre) (c .before .before .size .ensures) (c .before .size2 .ensures) (c .share-steps .ensures)
 
 add-result : tie.Need-add-result
 add-result c =
-    fits-coordinate (c .before .before .before .pre) (c .before .before .size .ensures) (c .before .size2 .ensures) (c .round-steps .ensures)
+    fits-coordinate (c .before .before .before .pre) (c .before .before .size .ensures) (c .before .size2 .ensures) (c .share-steps .ensures)
 
 returns : tie.Need-returns
 returns c =
-    coordinate-is (c .before .before .before .pre) (c .before .before .size .ensures) (c .before .size2 .ensures) (c .round-steps .ensures)
+    coordinate-is (c .before .before .before .pre) (c .before .before .size .ensures) (c .before .size2 .ensures) (c .share-steps .ensures)
 
 pub coordinate-spec : {M : Type 1} → statement M
 coordinate-spec =
@@ -35,7 +35,7 @@ coordinate-spec =
     (tie.spec
     size-requires
     size-requires-2
-    round-steps-requires
+    share-steps-requires
     mul-result
     cast-result
     add-result

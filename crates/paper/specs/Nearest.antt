@@ -1,0 +1,29 @@
+-- What request 2.5 says of a point: each coordinate is the number of steps that is nearest to the exact coordinate, and the even one of two that are
+-- as near.
+use Prim.Native.Nat.{ℕ, _*_, _%_, _≤_}
+use mathlib.Core.Path.{_≡_}
+use lib.IntN.{ℤ, pos, natAbs}
+use lib.ListN.{getD}
+use Rattle.exact.specs.Int.{_⊕_, _⊖_, _⊗_, 0ℤ}
+use Rattle.exact.specs.Det.{determinant}
+use Rattle.curves.specs.Grid.{Facet, facetVertices}
+use Rattle.curves.specs.Step.{Field, columns}
+use Rattle.paper.specs.Limits.{stepsPerUnit}
+use Rattle.paper.specs.Values.{weightSum}
+
+-- z is the whole number nearest to a / d, and the even one of two that are as near; the distances are multiplied by 2 times the size of d
+pub record IsNearest (a d z : ℤ) : Type 0 where
+  -- z is at most a half away
+  pub near : 2 * natAbs (a ⊖ z ⊗ d) ≤ natAbs d
+  -- if it is just a half away, z is even
+  pub even : 2 * natAbs (a ⊖ z ⊗ d) ≡ natAbs d → natAbs z % 2 ≡ 0
+
+-- D of a facet
+unfoldable pub facetD : ℕ → Field → Facet → ℤ
+facetD n φ f = determinant n (columns φ (facetVertices f))
+
+-- the exact coordinate of a facet's point on axis k, in steps and times D: 1024 times the lowest vertex's coordinate times D, plus 1024 times the sum of the
+-- weights a_i
+unfoldable pub exactSteps : ℕ → Field → Facet → ℕ → ℤ
+exactSteps n φ f k =
+    pos stepsPerUnit ⊗ (getD (f .low) k 0ℤ ⊗ facetD n φ f ⊕ weightSum n (columns φ (facetVertices f)) 1 (f .masks) k)
