@@ -5,10 +5,9 @@ use mathlib.Core.List.{List, [], _∷_}
 use native.Mathlib.Omega.{arith}
 use lib.ListN.{length, take}
 use Rattle.exact.specs.Int.{0ℤ}
-use Rattle.exact.specs.Det.{Column}
-use Rattle.curves.specs.Grid.{Place, Vertex}
-use Rattle.paper.specs.Job.{dimension, decodePlace}
-use Rattle.paper.specs.Values.{fieldOf, pointFrom, pointOf}
+use Rattle.curves.specs.Grid.{Place}
+use Rattle.paper.specs.Job.{dimension}
+use Rattle.paper.specs.Values.{fieldOf, pointOf}
 use Rattle.paper.specs.Operations.{refused, answered, facetOf, pointRefusal, pointed}
 use Rattle.paper.specs.Answers.{padded, paddedPoint, pointedAs}
 use Rattle.paper.specs.declared.StepPoint.{StepPoint}
@@ -17,6 +16,7 @@ use Rattle.paper.specs.Listing.{placeLine}
 use Rattle.paper.proofs.Refusals.{unless-answered}
 use Rattle.paper.proofs.Opens.{opens, opens-range}
 use Rattle.paper.proofs.Encode.{decoded-low-length}
+use Rattle.paper.proofs.Rounding.{point-length}
 use Rattle.places.specs.declared.HeldPlace.{HeldPlace}
 use Rattle.places.specs.Held.{facetAs, placeAs}
 use Rattle.places.specs.PlaceBytes.{PlaceRead}
@@ -32,12 +32,6 @@ take-padded d k zero (x ∷ l) e h = absurd (omega arith)
 take-padded d zero (suc n) (x ∷ l) e h = absurd (omega arith)
 take-padded d (suc k) (suc n) (x ∷ l) e h = ap (λ t. x ∷ t) (take-padded d k n l (omega arith) (omega arith))
 
--- a point has a number for each axis
-point-length : (n : ℕ) (cs : List Column) (ms : List ℕ) (a : ℕ) (v : Vertex) → length (pointFrom n cs ms a v) ≡ length v
-unfolding pointFrom
-point-length n cs ms a [] = refl
-point-length n cs ms a (x ∷ v) = ap suc (point-length n cs ms (suc a) v)
-
 module _ (s p : List ℕ) (passes : pointRefusal s p ≡ 0) where
   padded-is : paddedPoint (pointed s p) ≡ answered (padded 0ℤ 4 (pointOf (dimension s) (fieldOf s) (facetOf s p)))
   unfolding pointed paddedPoint
@@ -45,13 +39,13 @@ module _ (s p : List ℕ) (passes : pointRefusal s p ≡ 0) where
 
   point-shown : {found : Pointed.Pointed} {q : StepPoint} → found ≡ Pointed.the-variants.At q → pointedAs found ≡ paddedPoint (pointed s p)
       → dimension s ≤ 4 → take (dimension s) (q .x ∷ q .y ∷ q .z ∷ q .w ∷ []) ≡ pointOf (dimension s) (fieldOf s) (facetOf s p)
-  unfolding pointedAs pointOf facetOf
+  unfolding pointedAs facetOf
   point-shown {found} {q} e f h =
       let whole : answered (q .x ∷ q .y ∷ q .z ∷ q .w ∷ []) ≡ answered (padded 0ℤ 4 (pointOf (dimension s) (fieldOf s) (facetOf s p))) =
       sym (ap pointedAs e) ∙ f ∙ padded-is in
       let same : q .x ∷ q .y ∷ q .z ∷ q .w ∷ [] ≡ padded 0ℤ 4 (pointOf (dimension s) (fieldOf s) (facetOf s p)) = cc in
       ap (take (dimension s)) same
-      ∙ take-padded 0ℤ 4 (dimension s) (pointOf (dimension s) (fieldOf s) (facetOf s p)) (point-length _ _ _ _ _ ∙ decoded-low-length (dimension s) p) h
+      ∙ take-padded 0ℤ 4 (dimension s) (pointOf (dimension s) (fieldOf s) (facetOf s p)) (point-length (dimension s) (fieldOf s) (facetOf s p) ∙ decoded-low-length (dimension s) p) h
 
   pub point-not-refused : {found : Pointed.Pointed} {k : ℕ} → found ≡ Pointed.the-variants.Refused k → pointedAs found ≡ paddedPoint (pointed s p) → ⊥
   unfolding pointedAs

@@ -1,5 +1,5 @@
 -- Points to the nearest step, request 2.5, as rows of one table in the form of the marked cases: each row holds by computation from the definitions.
-use Prim.Native.Nat.{ℕ, suc, _*_, _-_}
+use Prim.Native.Nat.{ℕ, suc, _-_}
 use Prim.Native.String.{String}
 use mathlib.Core.Path.{refl}
 use mathlib.Core.Bool.{true, false}

@@ -5,19 +5,19 @@
 use Prim.Native.Nat.{ℕ, suc, zero, _+_, _*_, _-_, _/_, _%_, _≤_, _<_}
 use mathlib.Core.Path.{_≡_, refl, sym, ap, ap₂, _∙_, subst}
 use mathlib.Core.Bool.{Bool, true, false, cond}
-use mathlib.Core.Logic.{_≢_, _⊎_, inl, inr}
+use mathlib.Core.Logic.{_≢_, _↔_, _⊎_, inl, inr}
 use mathlib.Core.List.{List, [], _∷_}
 use native.Mathlib.Nat.{div-add-mod, mod-lt, le-of-mul-le-mul-right}
 use native.Mathlib.Omega.{arith}
 use borrow.Author.Tests.{ltb-true, ltb-false, eqb-true, eqb-false, not-false}
 use lib.IntN.{ℤ, pos, negsuc, natAbs}
-use lib.ListN.{length, getD, length-map}
+use lib.ListN.{length, getD}
+use lib.Seq.{ext-getD}
 use lib.Dec.{ltb, eqb}
-use Rattle.exact.specs.Int.{_⊕_, _⊖_, _⊗_, neg, 0ℤ, 1ℤ}
+use Rattle.exact.specs.Int.{_⊕_, _⊖_, _⊗_, neg, 0ℤ}
 use Rattle.exact.specs.Sign.{sign}
 use Rattle.exact.specs.Size.{Size}
 use Rattle.exact.specs.Det.{Column, determinant}
-use Rattle.exact.specs.Crossed.{countFrom}
 use Rattle.exact.proofs.Linear.{diff, up, down, split, linear, diff-add, diff-eq, pos-diff, negsuc-diff}
 use Rattle.exact.proofs.Solver.{var, con, _:+_, _:-_, _:*_, :neg, solve}
 use Rattle.exact.proofs.Ring.{add-zero}
@@ -29,9 +29,9 @@ use Rattle.curves.specs.Step.{Field, columns, crossedFacet}
 use Rattle.paper.specs.Limits.{stepsPerUnit}
 use Rattle.paper.specs.Job.{dimension, decodePlace}
 use Rattle.paper.specs.Values.{fieldOf, nearestSteps, roundSteps, weightSum, overSize, shareSteps, coordinateSteps, pointFrom, pointOf}
-use Rattle.paper.specs.Operations.{answered, crossedIn, facetOf, judgeRefusal, pointRefusal, pointed}
-use Rattle.paper.specs.Nearest.{IsNearest, facetD, exactSteps}
-use Rattle.paper.proofs.Refusals.{neither-refused, not-refused, answered-inv}
+use Rattle.paper.specs.Operations.{answered, crossedIn, facetOf, pointRefusal, pointed}
+use Rattle.paper.specs.Nearest.{IsNearest, facetD, exactSteps, NearestPoint}
+use Rattle.paper.proofs.Refusals.{neither-refused, not-refused, unless-answered, answered-inv}
 use Rattle.paper.proofs.Encode.{decoded-low-length}
 
 -- ---- a quotient and its rest
@@ -290,6 +290,16 @@ module _ (n : ℕ) (cs : List Column) (ms : List ℕ) where
       let same : a ≡ b = omega arith in ap (λ c. coordinateSteps x (weightSum n cs 1 ms c) (determinant n cs)) same
   coordinate-at a b (x ∷ v) (suc k) h e = coordinate-at (suc a) b v k (omega arith) (omega arith)
 
+  -- there is one for each axis
+  points-length : (a : ℕ) (v : Vertex) → length (pointFrom n cs ms a v) ≡ length v
+  unfolding pointFrom
+  points-length a [] = refl
+  points-length a (x ∷ v) = ap suc (points-length (suc a) v)
+
+pub point-length : (n : ℕ) (φ : Field) (f : Facet) → length (pointOf n φ f) ≡ length (f .low)
+unfolding pointOf
+point-length n φ f = points-length n (columns φ (facetVertices f)) (f .masks) 0 (f .low)
+
 -- D of a crossed facet is not 0
 pub crossed-d : (n : ℕ) (φ : Field) (f : Facet) → crossedFacet n φ f ≡ true → facetD n φ f ≢ 0ℤ
 unfolding crossedFacet facetD
@@ -306,13 +316,39 @@ point-nearest n φ f x k h =
     (sym (coordinate-at n cs (f .masks) 0 k (f .low) k h (omega arith)))
     (coordinate-nearest (getD (f .low) k 0ℤ) (weightSum n cs 1 (f .masks) k) (determinant n cs) (crossed-d n φ f x))
 
--- and so is what Point answers, from the bytes that it is handed
-pub pointed-nearest :
-    (s p : List ℕ) (v : List ℤ) → pointed s p ≡ answered v → (k : ℕ) → k < dimension s
-    → IsNearest (exactSteps (dimension s) (fieldOf s) (facetOf s p) k) (facetD (dimension s) (fieldOf s) (facetOf s p)) (getD v k 0ℤ)
+-- and Point, where it refuses nothing, answers v exactly if v is the nearest on each axis
+pub pointed-nearest : (s p : List ℕ) (v : List ℤ) → pointRefusal s p ≡ 0 → (pointed s p ≡ answered v) ↔ NearestPoint s p v
 unfolding pointed pointRefusal crossedIn facetOf
-pointed-nearest s p v e k h =
-    let a = answered-inv (pointRefusal s p) (pointOf (dimension s) (fieldOf s) (facetOf s p)) v e in
-    let r11 = not-refused _ 11 _ (omega arith) (neither-refused _ _ (a .none) .next) in
-    subst (λ w. IsNearest (exactSteps (dimension s) (fieldOf s) (facetOf s p) k) (facetD (dimension s) (fieldOf s) (facetOf s p)) (getD w k 0ℤ)) (a .is)
-    (point-nearest (dimension s) (fieldOf s) (facetOf s p) (not-false _ (r11 .test)) k (omega (arith, decoded-low-length (dimension s) p, h)))
+pointed-nearest s p v h = (there, back)
+  where
+    n : ℕ
+    n = dimension s
+
+    f : Facet
+    f = decodePlace (dimension s) p .facet
+
+    crossed : crossedFacet (dimension s) (fieldOf s) (decodePlace (dimension s) p .facet) ≡ true
+    crossed = not-false _ (not-refused _ 11 _ (omega arith) (neither-refused _ _ h .next) .test)
+
+    nearest :
+        (k : ℕ) → k < dimension s
+        → IsNearest (exactSteps n (fieldOf s) f k) (facetD n (fieldOf s) f) (getD (pointOf n (fieldOf s) f) k 0ℤ)
+    nearest k l = point-nearest n (fieldOf s) f crossed k (omega (arith, decoded-low-length (dimension s) p, l))
+
+    axes : length (pointOf n (fieldOf s) f) ≡ dimension s
+    axes = point-length n (fieldOf s) f ∙ decoded-low-length (dimension s) p
+
+    there : pointed s p ≡ answered v → NearestPoint s p v
+    there e =
+        let is : pointOf n (fieldOf s) f ≡ v = answered-inv (pointRefusal s p) (pointOf n (fieldOf s) f) v e .is in
+        record {
+          axes = sym (ap length is) ∙ axes;
+          nearest = λ k l. subst (λ w. IsNearest (exactSteps n (fieldOf s) f k) (facetD n (fieldOf s) f) (getD w k 0ℤ)) is (nearest k l);
+        }
+
+    back : NearestPoint s p v → pointed s p ≡ answered v
+    back w =
+        unless-answered (pointOf n (fieldOf s) f) h
+        ∙ ap answered
+        (ext-getD 0ℤ (pointOf n (fieldOf s) f) v (axes ∙ sym (w .axes))
+        (λ k l. nearest-unique _ _ _ _ (crossed-d n (fieldOf s) f crossed) (nearest k (omega (arith, axes, l))) (w .nearest k (omega (arith, axes, l)))))

@@ -1,15 +1,18 @@
 -- What request 2.5 says of a point: each coordinate is the number of steps that is nearest to the exact coordinate, and the even one of two that are
 -- as near.
-use Prim.Native.Nat.{ℕ, _*_, _%_, _≤_}
+use Prim.Native.Nat.{ℕ, _*_, _%_, _≤_, _<_}
 use mathlib.Core.Path.{_≡_}
+use mathlib.Core.List.{List}
 use lib.IntN.{ℤ, pos, natAbs}
-use lib.ListN.{getD}
+use lib.ListN.{length, getD}
 use Rattle.exact.specs.Int.{_⊕_, _⊖_, _⊗_, 0ℤ}
 use Rattle.exact.specs.Det.{determinant}
 use Rattle.curves.specs.Grid.{Facet, facetVertices}
 use Rattle.curves.specs.Step.{Field, columns}
 use Rattle.paper.specs.Limits.{stepsPerUnit}
-use Rattle.paper.specs.Values.{weightSum}
+use Rattle.paper.specs.Job.{dimension}
+use Rattle.paper.specs.Values.{fieldOf, weightSum}
+use Rattle.paper.specs.Operations.{facetOf}
 
 -- z is the whole number nearest to a / d, and the even one of two that are as near; the distances are multiplied by 2 times the size of d
 pub record IsNearest (a d z : ℤ) : Type 0 where
@@ -27,3 +30,10 @@ facetD n φ f = determinant n (columns φ (facetVertices f))
 unfoldable pub exactSteps : ℕ → Field → Facet → ℕ → ℤ
 exactSteps n φ f k =
     pos stepsPerUnit ⊗ (getD (f .low) k 0ℤ ⊗ facetD n φ f ⊕ weightSum n (columns φ (facetVertices f)) 1 (f .masks) k)
+
+-- v has a number for each axis of a job, the nearest to the exact coordinate of the point of a place handed over as bytes
+pub record NearestPoint (s p : List ℕ) (v : List ℤ) : Type 0 where
+  pub axes : length v ≡ dimension s
+  pub nearest :
+      (k : ℕ) → k < dimension s
+      → IsNearest (exactSteps (dimension s) (fieldOf s) (facetOf s p) k) (facetD (dimension s) (fieldOf s) (facetOf s p)) (getD v k 0ℤ)

@@ -2,7 +2,7 @@
 -- most 1024 · 257 steps in size. Over any number of axes.
 use Prim.Native.Nat.{ℕ, suc, zero, _+_, _*_, _<_}
 use native.Mathlib.Omega.{arith}
-use mathlib.Core.Path.{_≡_, refl, sym, ap, subst, _∙_}
+use mathlib.Core.Path.{_≡_, refl, ap, _∙_}
 use mathlib.Core.Bool.{true}
 use mathlib.Core.List.{List, [], _∷_, map}
 use lib.IntN.{ℤ, natAbs}

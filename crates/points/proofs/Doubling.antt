@@ -1,14 +1,13 @@
 -- The ten doublings of the rounding: after k of them 2 to the k times num is quotient times den plus a rest of at most den. Behind them the quotient and
 -- the rest say which number of steps is nearest.
 use Prim.Native.Nat.{ℕ, suc, _+_, _*_, _-_, _%_, _^_, _≤_, _<_}
-use mathlib.Core.Path.{_≡_, sym, ap, _∙_, subst}
+use mathlib.Core.Path.{_≡_, sym, ap, _∙_}
 use native.Mathlib.Omega.{arith}
 use native.Mathlib.Nat.{pow-succ', pow-le-pow-right}
 use native.Mathlib.Numerals.{add-one}
 use lib.IntN.{pos}
 use Rattle.paper.specs.Limits.{stepsPerUnit}
 use Rattle.paper.specs.Values.{shareSteps}
-use Rattle.paper.specs.Nearest.{IsNearest}
 use Rattle.paper.proofs.Rounding.{less-nearest, more-nearest, half-nearest, share-only}
 
 pub record Doubled (k num den steps rest : ℕ) : Type 0 where
