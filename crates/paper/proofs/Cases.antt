@@ -1,5 +1,5 @@
--- The marked cases A to J of document 01 and the numbers that request 2.5 names for the rounding, as rows of a table under one theorem: each row holds
--- by computation from the definitions.
+-- The marked cases A to J of document 01, and the numbers of request 2.5 with the same under 0, as rows of a table under one theorem: each row holds by
+-- computation from the definitions.
 use Prim.Native.Nat.{ℕ, zero, suc}
 use Prim.Native.String.{String}
 use mathlib.Core.Path.{_≡_, refl}

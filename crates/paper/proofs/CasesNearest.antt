@@ -15,20 +15,20 @@ use Rattle.paper.proofs.Cases4.{entries, jobOf, doubleWordBytes, term, 
 
 -- ---- the jobs
 
--- the polynomials c·x + b, c·y + b, .. from axis a on, with a b for each
-unfoldable pub slopesFrom : ℤ → ℕ → List ℤ → List (List ℕ)
-slopesFrom c a [] = []
-slopesFrom c a (b ∷ bs) = (constantTerm b ++ term c (set (0 ∷ 0 ∷ 0 ∷ 0 ∷ []) a 1)) ∷ slopesFrom c (suc a) bs
+-- the polynomials c·x + b, c·y + b, .. from axis a on, with c and b for each; in dimension 2 these are the jobs of `slopeJob`
+unfoldable pub slopesFrom : ℕ → List (ℤ × ℤ) → List (List ℕ)
+slopesFrom a [] = []
+slopesFrom a (l ∷ ls) = (constantTerm (l .1) ++ term (l .0) (set (0 ∷ 0 ∷ 0 ∷ 0 ∷ []) a 1)) ∷ slopesFrom (suc a) ls
 
 -- the place at v with masks 1, 3 and 7 and side 0: its facet has the points v + (x, y, .., 0) with x no less than y, and so on
 unfoldable pub cornerPlace : Vertex → Place
 cornerPlace v = place v (take (length v - 1) (1 ∷ 3 ∷ 7 ∷ [])) 0
 
 -- these polynomials; box − 1 to 1; start `cornerPlace v`
-unfoldable pub cornerJob : ℤ → List ℤ → Vertex → List ℕ
-cornerJob c bs v =
+unfoldable pub cornerJob : List (ℤ × ℤ) → Vertex → List ℕ
+cornerJob ls v =
     jobOf (length v)
-    (flatMap vertexBytes (replicate (length v) (negsuc 0 ∷ pos 1 ∷ [])) ∷ (slopesFrom c 0 bs ++ (encodePlace (cornerPlace v) ∷ [])))
+    (flatMap vertexBytes (replicate (length v) (negsuc 0 ∷ pos 1 ∷ [])) ∷ (slopesFrom 0 ls ++ (encodePlace (cornerPlace v) ∷ [])))
 
 -- 2,048·y − x, which is 0 where y is x / 2,048, so that y grows by half a step from one grid line to the next; box − 4 to 4 on axis 1 and − 1 to 1 on
 -- axis 2; start − 4 − 1, mask 2, side 0
@@ -75,38 +75,52 @@ minusOnes n = replicate (n - 1) (negsuc 0) ++ (pos 0 ∷ [])
 -- ---- the rows
 
 -- the point at the start of a `cornerJob`, and the pen's move to it
-abbrev point : ℤ → List ℤ → Vertex → List ℤ → Row
-point c bs v p = points (cornerJob c bs v) (encodePlace (cornerPlace v)) p
+abbrev point : List (ℤ × ℤ) → Vertex → List ℤ → Row
+point ls v p = points (cornerJob ls v) (encodePlace (cornerPlace v)) p
 
-abbrev move : ℤ → List ℤ → Vertex → List Float → Row
-move c bs v p = pens (cornerJob c bs v) (encodePlace (cornerPlace v)) false 0 (lift p)
+abbrev move : List (ℤ × ℤ) → Vertex → List Float → Row
+move ls v p = pens (cornerJob ls v) (encodePlace (cornerPlace v)) false 0 (lift p)
+
+-- 2,048·x + b, which is 0 at − b halves of a step; with the opposite sign; and 1,048,576·x + b
+abbrev rise : ℤ → ℤ × ℤ
+rise b = (pos 2048, b)
+
+abbrev fall : ℤ → ℤ × ℤ
+fall b = (negsuc 2047, b)
+
+abbrev steep : ℤ → ℤ × ℤ
+steep b = (pos 1048576, b)
 
 unfoldable pub markedCasesNearest : List Row
 markedCasesNearest =
     -- 5 and 7 halves are 2 and 4, and as much under 0
-    point (pos 2048) (negsuc 4 ∷ []) (zeros 2) (pos 2 ∷ pos 0 ∷ [])
-    ∷ point (pos 2048) (negsuc 6 ∷ []) (zeros 2) (pos 4 ∷ pos 0 ∷ [])
-    ∷ point (pos 2048) (pos 5 ∷ []) (minusOnes 2) (negsuc 1 ∷ pos 0 ∷ [])
-    ∷ point (pos 2048) (pos 7 ∷ []) (minusOnes 2) (negsuc 3 ∷ pos 0 ∷ [])
+    point (rise (negsuc 4) ∷ []) (zeros 2) (pos 2 ∷ pos 0 ∷ [])
+    ∷ point (rise (negsuc 6) ∷ []) (zeros 2) (pos 4 ∷ pos 0 ∷ [])
+    ∷ point (rise (pos 5) ∷ []) (minusOnes 2) (negsuc 1 ∷ pos 0 ∷ [])
+    ∷ point (rise (pos 7) ∷ []) (minusOnes 2) (negsuc 3 ∷ pos 0 ∷ [])
     -- D under 0: 1, 3, − 1 and − 3 halves
-    ∷ point (negsuc 2047) (pos 1 ∷ []) (zeros 2) (pos 0 ∷ pos 0 ∷ [])
-    ∷ point (negsuc 2047) (pos 3 ∷ []) (zeros 2) (pos 2 ∷ pos 0 ∷ [])
-    ∷ point (negsuc 2047) (negsuc 0 ∷ []) (minusOnes 2) (pos 0 ∷ pos 0 ∷ [])
-    ∷ point (negsuc 2047) (negsuc 2 ∷ []) (minusOnes 2) (negsuc 1 ∷ pos 0 ∷ [])
+    ∷ point (fall (pos 1) ∷ []) (zeros 2) (pos 0 ∷ pos 0 ∷ [])
+    ∷ point (fall (pos 3) ∷ []) (zeros 2) (pos 2 ∷ pos 0 ∷ [])
+    ∷ point (fall (negsuc 0) ∷ []) (minusOnes 2) (pos 0 ∷ pos 0 ∷ [])
+    ∷ point (fall (negsuc 2) ∷ []) (minusOnes 2) (negsuc 1 ∷ pos 0 ∷ [])
     -- a little less than a half of a step and a little more, 511 / 1,024 and 513 / 1,024; the same under 0
-    ∷ point (pos 1048576) (negsuc 510 ∷ []) (zeros 2) (pos 0 ∷ pos 0 ∷ [])
-    ∷ point (pos 1048576) (negsuc 512 ∷ []) (zeros 2) (pos 1 ∷ pos 0 ∷ [])
-    ∷ point (pos 1048576) (pos 511 ∷ []) (minusOnes 2) (pos 0 ∷ pos 0 ∷ [])
-    ∷ point (pos 1048576) (pos 513 ∷ []) (minusOnes 2) (negsuc 0 ∷ pos 0 ∷ [])
-    -- dimension 3: 3 and 1 halves, − 1 and − 3 halves
-    ∷ point (pos 2048) (negsuc 2 ∷ negsuc 0 ∷ []) (zeros 3) (pos 2 ∷ pos 0 ∷ pos 0 ∷ [])
-    ∷ point (pos 2048) (pos 1 ∷ pos 3 ∷ []) (minusOnes 3) (pos 0 ∷ negsuc 1 ∷ pos 0 ∷ [])
-    -- dimension 4: 5, 3 and 1 halves, − 1, − 3 and − 5 halves
-    ∷ point (pos 2048) (negsuc 4 ∷ negsuc 2 ∷ negsuc 0 ∷ []) (zeros 4) (pos 2 ∷ pos 2 ∷ pos 0 ∷ pos 0 ∷ [])
-    ∷ point (pos 2048) (pos 1 ∷ pos 3 ∷ pos 5 ∷ []) (minusOnes 4) (pos 0 ∷ negsuc 1 ∷ negsuc 1 ∷ pos 0 ∷ [])
+    ∷ point (steep (negsuc 510) ∷ []) (zeros 2) (pos 0 ∷ pos 0 ∷ [])
+    ∷ point (steep (negsuc 512) ∷ []) (zeros 2) (pos 1 ∷ pos 0 ∷ [])
+    ∷ point (steep (pos 511) ∷ []) (minusOnes 2) (pos 0 ∷ pos 0 ∷ [])
+    ∷ point (steep (pos 513) ∷ []) (minusOnes 2) (negsuc 0 ∷ pos 0 ∷ [])
+    -- dimension 3: 3 and 1 halves, − 1 and − 3 halves; the same with D under 0
+    ∷ point (rise (negsuc 2) ∷ rise (negsuc 0) ∷ []) (zeros 3) (pos 2 ∷ pos 0 ∷ pos 0 ∷ [])
+    ∷ point (rise (pos 1) ∷ rise (pos 3) ∷ []) (minusOnes 3) (pos 0 ∷ negsuc 1 ∷ pos 0 ∷ [])
+    ∷ point (rise (negsuc 2) ∷ fall (pos 1) ∷ []) (zeros 3) (pos 2 ∷ pos 0 ∷ pos 0 ∷ [])
+    ∷ point (rise (pos 1) ∷ fall (negsuc 2) ∷ []) (minusOnes 3) (pos 0 ∷ negsuc 1 ∷ pos 0 ∷ [])
+    -- dimension 4: 5, 3 and 1 halves, − 1, − 3 and − 5 halves; the same with D under 0
+    ∷ point (rise (negsuc 4) ∷ rise (negsuc 2) ∷ rise (negsuc 0) ∷ []) (zeros 4) (pos 2 ∷ pos 2 ∷ pos 0 ∷ pos 0 ∷ [])
+    ∷ point (rise (pos 1) ∷ rise (pos 3) ∷ rise (pos 5) ∷ []) (minusOnes 4) (pos 0 ∷ negsuc 1 ∷ negsuc 1 ∷ pos 0 ∷ [])
+    ∷ point (fall (pos 5) ∷ rise (negsuc 2) ∷ rise (negsuc 0) ∷ []) (zeros 4) (pos 2 ∷ pos 2 ∷ pos 0 ∷ pos 0 ∷ [])
+    ∷ point (fall (negsuc 0) ∷ rise (pos 3) ∷ rise (pos 5) ∷ []) (minusOnes 4) (pos 0 ∷ negsuc 1 ∷ negsuc 1 ∷ pos 0 ∷ [])
     -- the pen goes where the point is: 3 halves are 2 / 1,024; − 1 half is + 0 and − 3 halves are − 2 / 1,024
-    ∷ move (pos 2048) (negsuc 2 ∷ []) (zeros 2) (fin false 1 (negsuc 8) ∷ fin false 0 (pos 0) ∷ fin false 0 (pos 0) ∷ [])
-    ∷ move (pos 2048) (pos 1 ∷ pos 3 ∷ []) (minusOnes 3) (fin false 0 (pos 0) ∷ fin true 1 (negsuc 8) ∷ fin false 0 (pos 0) ∷ [])
+    ∷ move (rise (negsuc 2) ∷ []) (zeros 2) (fin false 1 (negsuc 8) ∷ fin false 0 (pos 0) ∷ fin false 0 (pos 0) ∷ [])
+    ∷ move (rise (pos 1) ∷ rise (pos 3) ∷ []) (minusOnes 3) (fin false 0 (pos 0) ∷ fin true 1 (negsuc 8) ∷ fin false 0 (pos 0) ∷ [])
     -- and so does the listing
     ∷ prints slantJob linesSlant
     ∷ []
@@ -121,7 +135,7 @@ marked-cases-nearest-hold =
     -- dimension 2
     refl also refl also refl also refl also refl also refl also refl also refl also refl also refl also refl also refl
     -- dimensions 3 and 4
-    also refl also refl also refl also refl
+    also refl also refl also refl also refl also refl also refl also refl also refl
     -- the pen and the listing
     also refl also refl also refl also end
     )

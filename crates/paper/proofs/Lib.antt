@@ -29,4 +29,5 @@ pub mod Demand3Example
 pub mod Millimetre
 pub mod Decimal
 pub mod Rounding
+pub mod PointMoves
 pub mod CrossedPlain

@@ -140,7 +140,7 @@ size-positive (pos zero) h = absurd (h refl)
 size-positive (pos (suc n)) h = omega arith
 size-positive (negsuc n) h = omega arith
 
--- two of them are less than two apart, and if they were one apart, both were even
+-- two of them are less than two apart, and if they were one apart, both would be even
 pub nearest-unique : (a d z w : ℤ) → d ≢ 0ℤ → IsNearest a d z → IsNearest a d w → z ≡ w
 nearest-unique a d z w nonzero h k =
     sym (add-zero z) ∙ ap (λ t. z ⊕ t) (sym (size-zero apart none)) ∙ sym step
@@ -194,7 +194,7 @@ nearest-unit k a d z h =
 pos-nonzero : (n : ℕ) → 0 < n → pos n ≢ 0ℤ
 pos-nonzero n h e = let z : n ≡ 0 = cc in omega arith
 
--- k whole units more are 1024 · k steps more
+-- k whole units more are 1024 · k steps more, also of a half
 pub round-moves :
     (k num : ℤ) (den : ℕ) → 0 < den → roundSteps (pos stepsPerUnit ⊗ k ⊗ pos den ⊕ num) den ≡ pos stepsPerUnit ⊗ k ⊕ roundSteps num den
 round-moves k num den h =
@@ -243,12 +243,6 @@ coordinate-whole low num d h =
     let same : u ⊗ low ⊗ pos (natAbs d) ⊕ u ⊗ overSize num d ≡ u ⊗ (low ⊗ pos (natAbs d) ⊕ overSize num d) =
     solve (var 0 :* var 1 :* var 2 :+ var 0 :* var 3) (var 0 :* (var 1 :* var 2 :+ var 3)) (u ∷ low ∷ pos (natAbs d) ∷ overSize num d ∷ []) refl in
     sym (round-moves low (u ⊗ overSize num d) (natAbs d) (size-positive d h)) ∙ ap (λ a. roundSteps a (natAbs d)) same
-
--- k whole units more are 1024 · k steps more
-pub coordinate-moves : (k low num d : ℤ) → coordinateSteps (k ⊕ low) num d ≡ pos stepsPerUnit ⊗ k ⊕ coordinateSteps low num d
-unfolding coordinateSteps
-coordinate-moves k low num d =
-    solve (var 0 :* (var 1 :+ var 2) :+ var 3) (var 0 :* var 1 :+ (var 0 :* var 2 :+ var 3)) (pos stepsPerUnit ∷ k ∷ low ∷ shareSteps num d ∷ []) refl
 
 -- numerator and denominator with the opposite sign: the same fraction
 nearest-turned : (a d z : ℤ) → IsNearest a d z → IsNearest (neg a) (neg d) z
@@ -301,7 +295,7 @@ unfolding pointOf
 point-length n φ f = points-length n (columns φ (facetVertices f)) (f .masks) 0 (f .low)
 
 -- D of a crossed facet is not 0
-pub crossed-d : (n : ℕ) (φ : Field) (f : Facet) → crossedFacet n φ f ≡ true → facetD n φ f ≢ 0ℤ
+crossed-d : (n : ℕ) (φ : Field) (f : Facet) → crossedFacet n φ f ≡ true → facetD n φ f ≢ 0ℤ
 unfolding crossedFacet facetD
 crossed-d n φ f x e = crossed-nonzero n (columns φ (facetVertices f)) x (ap sign e ∙ sign-zero)
 

@@ -1,8 +1,8 @@
 -- What request 2.5 says of a point: each coordinate is the number of steps that is nearest to the exact coordinate, and the even one of two that are
--- as near.
+-- as near; and that a drawing moved by whole units has its points moved by as much.
 use Prim.Native.Nat.{ℕ, _*_, _%_, _≤_, _<_}
 use mathlib.Core.Path.{_≡_}
-use mathlib.Core.List.{List}
+use mathlib.Core.List.{List, [], _∷_, map}
 use lib.IntN.{ℤ, pos, natAbs}
 use lib.ListN.{length, getD}
 use Rattle.exact.specs.Int.{_⊕_, _⊖_, _⊗_, 0ℤ}
@@ -18,15 +18,15 @@ use Rattle.paper.specs.Operations.{facetOf}
 pub record IsNearest (a d z : ℤ) : Type 0 where
   -- z is at most a half away
   pub near : 2 * natAbs (a ⊖ z ⊗ d) ≤ natAbs d
-  -- if it is just a half away, z is even
+  -- if it is exactly a half away, z is even
   pub even : 2 * natAbs (a ⊖ z ⊗ d) ≡ natAbs d → natAbs z % 2 ≡ 0
 
 -- D of a facet
 unfoldable pub facetD : ℕ → Field → Facet → ℤ
 facetD n φ f = determinant n (columns φ (facetVertices f))
 
--- the exact coordinate of a facet's point on axis k, in steps and times D: 1024 times the lowest vertex's coordinate times D, plus 1024 times the sum of the
--- weights a_i
+-- the exact coordinate of a facet's point on axis k, in steps and times D: 1024 times the lowest vertex's coordinate times D, plus 1024 times the sum of
+-- the a_i of those vertices whose mask has the axis
 unfoldable pub exactSteps : ℕ → Field → Facet → ℕ → ℤ
 exactSteps n φ f k =
     pos stepsPerUnit ⊗ (getD (f .low) k 0ℤ ⊗ facetD n φ f ⊕ weightSum n (columns φ (facetVertices f)) 1 (f .masks) k)
@@ -37,3 +37,17 @@ pub record NearestPoint (s p : List ℕ) (v : List ℤ) : Type 0 where
   pub nearest :
       (k : ℕ) → k < dimension s
       → IsNearest (exactSteps (dimension s) (fieldOf s) (facetOf s p) k) (facetD (dimension s) (fieldOf s) (facetOf s p)) (getD v k 0ℤ)
+
+-- numbers added to those of a vertex or a point, axis by axis
+unfoldable pub moved : List ℤ → List ℤ → List ℤ
+moved [] v = v
+moved (k ∷ u) [] = []
+moved (k ∷ u) (x ∷ v) = (k ⊕ x) ∷ moved u v
+
+-- a facet moved by whole units
+unfoldable pub movedFacet : List ℤ → Facet → Facet
+movedFacet u f = record { low = moved u (f .low); masks = f .masks }
+
+-- as many units in steps
+unfoldable pub unitSteps : List ℤ → List ℤ
+unitSteps u = map (λ k. pos stepsPerUnit ⊗ k) u

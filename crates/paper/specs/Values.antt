@@ -92,7 +92,8 @@ overSize num (negsuc d) = neg num
 unfoldable pub shareSteps : ℤ → ℤ → ℤ
 shareSteps num d = roundSteps (pos stepsPerUnit ⊗ overSize num d) (natAbs d)
 
--- 1024 times the lowest vertex's coordinate, plus the steps of the share that is the sum of the weights a_i / D
+-- 1024 times the lowest vertex's coordinate, plus the steps of the share that is the sum of the weights a_i / D: the whole coordinate rounded, since 1024
+-- is even
 unfoldable pub coordinateSteps : ℤ → ℤ → ℤ → ℤ
 coordinateSteps low num d = pos stepsPerUnit ⊗ low ⊕ shareSteps num d
 

@@ -19,11 +19,11 @@ use Rattle.points.specs.Shares.{Share, denominatorLimit, lowLimit, steps
 pos-le : (a b : ℕ) → pos a ≤ℤ pos b → a ≤ b
 pos-le a b h = leb→le a b (h .le)
 
--- a share's numerator is no larger than its denominator
-pub share-is : (num d : ℤ) → Share num d → overSize num d ≡ pos (natAbs num)
+share-is : (num d : ℤ) → Share num d → overSize num d ≡ pos (natAbs num)
 share-is num d sh = sym (pos-natAbs (overSize num d) (yes-nonNeg (sh .least))) ∙ ap pos (natAbs-overSize num d)
 
-pub share-most : (num d : ℤ) → Share num d → natAbs num ≤ natAbs d
+-- a share's numerator is no larger than its denominator
+share-most : (num d : ℤ) → Share num d → natAbs num ≤ natAbs d
 share-most num d sh = pos-le (natAbs num) (natAbs d) (subst (λ z. z ≤ℤ pos (natAbs d)) (share-is num d sh) (sh .most))
 
 pub share-size : (num d : ℤ) → Share num d → Size stepsPerUnit (shareSteps num d)

@@ -5,7 +5,8 @@ ghost use lib.IntN.{pos};
 ghost use Rattle.paper.specs.Values.{shareSteps};
 ghost use Rattle.points.specs.Shares.{denominatorLimit};
 
-// The steps of the share num / den. 1024 · num may leave 64 bits, so it is made by ten doublings that take den out as often as it goes in: steps times, and rest is left.
+// The steps of the share num / den. 1024 · num may leave 64 bits, so it is made by ten doublings, each of which takes den out at most once:
+// then it is steps · den + rest, with rest at most den.
 pub fn share_steps(num: u64, den: u64) -> u64
     requires { ⌜ (0 < den) × ((num ≤ den) × (den ≤ denominatorLimit)) ⌝ }
     ensures { λ r. ⌜ pos r ≡ shareSteps (pos num) (pos den) ⌝ }
