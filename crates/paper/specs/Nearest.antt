@@ -48,6 +48,6 @@ moved (k ∷ u) (x ∷ v) = (k ⊕ x) ∷ moved u v
 unfoldable pub movedFacet : List ℤ → Facet → Facet
 movedFacet u f = record { low = moved u (f .low); masks = f .masks }
 
--- as many units in steps
+-- whole units in steps, axis by axis
 unfoldable pub unitSteps : List ℤ → List ℤ
 unitSteps u = map (λ k. pos stepsPerUnit ⊗ k) u

@@ -5,6 +5,7 @@ use std::fmt::Debug;
 use reference::build::Parts;
 use reference::generate::{any_job, any_place, valid, JobTally, PlaceTally, Random};
 use reference::grid::Place;
+use reference::job::Job;
 use reference::limits::DIMENSIONS;
 use reference::sums_met::{SumsMet, AROUND_BIAS, AT_LIMIT, NOT_READABLE};
 use reference::tally::{Answer, Tally};
@@ -39,6 +40,17 @@ impl<A: PartialEq + Debug> OnPlaces<A> {
     /// So many valid jobs with so many places each; places of each kind come up, each answer at
     /// each bias, sums at the readable limit and at the bias, and answers that the bias changes.
     pub fn valid_jobs(&self, seed: u64, jobs: usize, places: usize) {
+        self.valid_jobs_and(seed, jobs, places, |_, _, _| {});
+    }
+
+    /// The same, with something done for each answer that is no refusal.
+    pub fn valid_jobs_and(
+        &self,
+        seed: u64,
+        jobs: usize,
+        places: usize,
+        mut and: impl FnMut(&Job, &Place, &A),
+    ) {
         let mut r = Random::new(seed);
         let (mut made, mut places_made) = (Tally::default(), PlaceTally::default());
         let (mut answers, mut changed) = (Tally::default(), Tally::default());
@@ -57,7 +69,11 @@ impl<A: PartialEq + Debug> OnPlaces<A> {
                 }
                 answers.count(parts.n, (names.bias, self.named(&answer)));
                 places_made.count(&place);
-                Place::read(parts.n, &place.bytes).iter().for_each(|p| sums.count(&opened, p));
+                let Some(read) = Place::read(parts.n, &place.bytes) else { continue };
+                sums.count(&opened, &read);
+                if let Ok(answer) = answer {
+                    and(&opened, &read, &answer);
+                }
             }
         }
         made.assert_all();

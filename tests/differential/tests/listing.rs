@@ -6,9 +6,11 @@ use std::process::{Command, Stdio};
 
 use library::answers::{and_those_of_open, Answers};
 use reference::build::{case_a, case_c, gathered, place, power_of, term, Parts};
-use reference::generate::{any_job, valid, Bias, JobTally, Random};
+use reference::generate::{any_job, valid, valid_for_rounding, Bias, JobTally, Random};
+use reference::job::open;
 use reference::listing::listing;
-use reference::marked::{CASE_A_LISTING, CASE_C_4_LISTING};
+use reference::marked::{upright, CASE_A_LISTING, CASE_C_4_LISTING, UPRIGHT_LISTINGS};
+use reference::roundings_met::RoundingsMet;
 use reference::sums_met::{SumsMet, AROUND_BIAS, NOT_READABLE};
 use reference::tally::{Answer, Named, Tally};
 
@@ -38,6 +40,11 @@ fn printed(job: &[u8]) -> String {
 fn cases_and_lengths() {
     assert_eq!(printed(&case_a().bytes()), CASE_A_LISTING);
     assert_eq!(printed(&case_c(4).bytes()), CASE_C_4_LISTING);
+    for (counts, text) in UPRIGHT_LISTINGS {
+        for turned in (0..counts.len()).map(Some).chain([None]) {
+            assert_eq!(printed(&upright(counts, turned).bytes()), text);
+        }
+    }
     for length in [0, 1, 3, 4, 2047, 2048, 2049, 4096, 70_000] {
         for first in [0, 1] {
             let mut job = vec![0; length];
@@ -113,6 +120,11 @@ fn jobs() -> Vec<(usize, Bias, Vec<u8>)> {
     any.assert_all();
     made.assert_all();
     sums.assert_includes(&[AROUND_BIAS, NOT_READABLE]);
+    // Curves with many halves of a step.
+    for _ in 0..3_000 {
+        let (names, parts) = valid_for_rounding(&mut r);
+        jobs.push((parts.n, names.bias, parts.bytes()));
+    }
     jobs
 }
 
@@ -123,30 +135,47 @@ fn listing_at_bias_0(job: &[u8]) -> String {
     listing(&plain)
 }
 
+/// Counts the coordinates of the lines behind the first: lowest vertex, masks, point in steps.
+fn count_roundings(roundings: &mut RoundingsMet, job: &[u8], text: &str) {
+    let Ok(job) = open(job) else { return };
+    let n = job.n;
+    for line in text.lines().skip(1) {
+        let words = line.split(' ').map(|word| word.parse().expect("a number"));
+        let numbers: Vec<i64> = words.collect();
+        let (facet, steps) = numbers.split_at(2 * n - 1);
+        let masks: Vec<u8> = facet[n..].iter().map(|&mask| mask as u8).collect();
+        roundings.count(&job, &place(&facet[..n], &masks, 0).facet, steps);
+    }
+}
+
 #[test]
 fn listing_is_the_reference() {
     let jobs = jobs();
     // Most of the time goes into starting the program, so a few are started side by side.
-    let compare = |(n, bias, job): &(usize, Bias, Vec<u8>)| {
+    let compare = |(_, _, job): &(usize, Bias, Vec<u8>)| {
         let wanted = listing(job);
         assert_eq!(printed(job), wanted, "{job:?}");
-        (*n, *bias, answer(&wanted), wanted != listing_at_bias_0(job))
+        let differs = wanted != listing_at_bias_0(job);
+        (wanted, differs)
     };
-    let (mut answers, mut changed) = (Answers::default(), Tally::default());
-    std::thread::scope(|scope| {
+    let compared: Vec<(String, bool)> = std::thread::scope(|scope| {
         let parts = jobs.chunks(jobs.len() / 4);
         let compare_all = |part: &[_]| part.iter().map(compare).collect::<Vec<_>>();
         let threads: Vec<_> = parts.map(|part| scope.spawn(move || compare_all(part))).collect();
-        for thread in threads {
-            for (n, bias, answer, differs) in thread.join().expect("no difference") {
-                answers.count(n, bias, answer);
-                if differs {
-                    changed.count(n, bias);
-                }
-            }
-        }
+        threads.into_iter().flat_map(|thread| thread.join().expect("no difference")).collect()
     });
+    let (mut answers, mut changed) = (Answers::default(), Tally::default());
+    let mut roundings = RoundingsMet::default();
+    for ((n, bias, job), (text, differs)) in jobs.iter().zip(&compared) {
+        answers.count(*n, *bias, answer(text));
+        if *differs {
+            changed.count(*n, *bias);
+        }
+        count_roundings(&mut roundings, job, text);
+    }
     let own = [Err(9), Err(10), Err(11), Ok("loop"), Ok("edge"), Ok("limit")];
     answers.assert_includes(&and_those_of_open(&own));
     changed.assert_includes(&Bias::all()[1..]);
+    roundings.assert_often(50);
+    roundings.assert_halves(150);
 }

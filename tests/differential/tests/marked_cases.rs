@@ -1,5 +1,5 @@
-//! Cases A to J, their like in dimension 4 and at a bias, running sums, and the wrong turns on
-//! the proved library.
+//! Cases A to J, their like in dimension 4 and at a bias, running sums, halves of a step, and the
+//! wrong turns on the proved library.
 
 use library::ffi::Library;
 use reference::marked;
@@ -22,6 +22,11 @@ fn bias() {
 #[test]
 fn running_sums() {
     marked::running_sums(&Library);
+}
+
+#[test]
+fn nearest_step() {
+    marked::nearest_step(&Library);
 }
 
 #[test]

@@ -1,6 +1,8 @@
 //! "Crossed": values, readable, the bias, the determinant, the tie rule, the point, over any n.
 
-use crate::grid::{has, Facet, Vertex};
+use std::cmp::Ordering;
+
+use crate::grid::{has, vertex, Facet, Vertex};
 use crate::limits::{Limits, MOST};
 
 /// A term: coefficient and exponents for axes 1 to 4.
@@ -108,28 +110,51 @@ pub fn is_crossed(columns: &[Column]) -> bool {
         })
 }
 
-/// The quotient rounded down.
-pub fn floor(numerator: i128, denominator: i128) -> i128 {
-    let quotient = numerator / denominator;
-    let left = numerator % denominator;
-    if left != 0 && (left < 0) != (denominator < 0) {
-        quotient - 1
-    } else {
-        quotient
+/// An exact fraction. Its denominator is not 0; both numbers may have either sign.
+#[derive(Clone, Copy, Debug)]
+pub struct Fraction {
+    pub numerator: i128,
+    pub denominator: i128,
+}
+
+impl Fraction {
+    /// The largest whole number that is not above it.
+    pub fn below(&self) -> i128 {
+        (self.numerator * self.denominator.signum()).div_euclid(self.denominator.abs())
     }
+
+    /// The nearest whole number; a half goes to the even one of its two.
+    pub fn nearest(&self) -> i128 {
+        let below = self.below();
+        let left = self.numerator - below * self.denominator;
+        match (2 * left.abs()).cmp(&self.denominator.abs()) {
+            Ordering::Less => below,
+            Ordering::Greater => below + 1,
+            Ordering::Equal => below + below.rem_euclid(2),
+        }
+    }
+}
+
+/// The steps in a unit.
+const STEPS: i128 = 1024;
+
+/// The coordinates of a crossed facet's point, exact, in steps of 1/1024: the lowest vertex's, and
+/// the weights of those vertices whose mask has the axis.
+pub fn exact_point(facet: &Facet, columns: &[Column]) -> Vec<Fraction> {
+    let d = determinant(columns);
+    let coordinate = |axis: usize| {
+        let above = (0..facet.n).filter(|&i| has(facet.mask(i), axis));
+        let weights: i128 = above.map(|i| coefficient(columns, i, 0)).sum();
+        let lowest = facet.lowest[axis - 1] as i128;
+        Fraction { numerator: STEPS * (lowest * d + weights), denominator: d }
+    };
+    (1..=facet.n).map(coordinate).collect()
 }
 
 /// The point of a crossed facet, in steps of 1/1024; 0 for axes above n.
 pub fn point(facet: &Facet, columns: &[Column]) -> Vertex {
-    let d = determinant(columns);
-    let mut steps = [0; MOST];
-    for axis in 1..=facet.n {
-        let above = (0..facet.n).filter(|&i| has(facet.mask(i), axis));
-        let weights: i128 = above.map(|i| coefficient(columns, i, 0)).sum();
-        let share = floor(1024 * weights, d);
-        steps[axis - 1] = (1024 * facet.lowest[axis - 1] as i128 + share) as i64;
-    }
-    steps
+    let exact = exact_point(facet, columns);
+    vertex(&exact.iter().map(|coordinate| coordinate.nearest() as i64).collect::<Vec<_>>())
 }
 
 #[cfg(test)]
@@ -137,15 +162,63 @@ mod tests {
     use super::*;
     use crate::cartesian::cartesian;
     use crate::limits::DIMENSIONS;
+    use std::collections::BTreeSet;
 
+    /// The request's values and the wrong turn's, each with both signs of the denominator.
     #[test]
-    fn rounding_goes_down() {
-        assert_eq!(floor(-3, 10), -1);
-        assert_eq!(floor(3, -10), -1);
-        assert_eq!(floor(3, 10), 0);
-        assert_eq!(floor(-3, -10), 0);
-        assert_eq!(floor(-20, 10), -2);
-        assert_eq!(floor(7, 2), 3);
+    fn rounding_goes_to_the_nearest() {
+        let of_a_unit = [(1, 2048, 0), (3, 2048, 2), (-1, 2048, 0), (-3, 2048, -2)];
+        let in_steps = of_a_unit.map(|(above, under, wanted)| (STEPS * above, under, wanted));
+        for (numerator, denominator, wanted) in in_steps.into_iter().chain([(-3, 10, 0)]) {
+            let fraction = Fraction { numerator, denominator };
+            let turned = Fraction { numerator: -numerator, denominator: -denominator };
+            assert_eq!([fraction.nearest(), turned.nearest()], [wanted; 2], "{fraction:?}");
+        }
+    }
+
+    /// The whole numbers that may be the answer: none is farther away by size, and of two that are
+    /// equally near it is the even one. Found by looking at each candidate.
+    fn nearest_by_search(fraction: &Fraction, candidates: &[i128]) -> Vec<i128> {
+        let distance = |k: i128| (fraction.numerator - k * fraction.denominator).abs();
+        let least = candidates.iter().map(|&k| distance(k)).min().expect("a candidate");
+        let mut nearest = candidates.to_vec();
+        nearest.retain(|&k| distance(k) == least);
+        if nearest.len() > 1 {
+            nearest.retain(|k| k % 2 == 0);
+        }
+        nearest
+    }
+
+    /// There is exactly one such number, for every small fraction, and halves come up over even
+    /// and over odd numbers of both signs.
+    #[test]
+    fn one_nearest_number() {
+        let candidates: Vec<i128> = (-122..=122).collect();
+        let mut halves = BTreeSet::new();
+        for numerator in -120..=120 {
+            for denominator in (-40..=40).filter(|&d| d != 0) {
+                let fraction = Fraction { numerator, denominator };
+                let found = nearest_by_search(&fraction, &candidates);
+                assert_eq!(found, [fraction.nearest()], "{fraction:?}");
+                if 2 * numerator % denominator == 0 && numerator % denominator != 0 {
+                    let below = fraction.below();
+                    halves.insert((below % 2 == 0, below < 0, denominator < 0));
+                }
+            }
+        }
+        assert_eq!(halves.len(), 8);
+    }
+
+    /// The largest whole number that is not above a fraction.
+    #[test]
+    fn below_is_the_largest() {
+        for numerator in -60..=60 {
+            for denominator in (-20..=20).filter(|&d| d != 0) {
+                let below = Fraction { numerator, denominator }.below();
+                let is_above = |k: i128| k * denominator * denominator > numerator * denominator;
+                assert!(!is_above(below) && is_above(below + 1), "{numerator}/{denominator}");
+            }
+        }
     }
 
     /// At each bias: its size counts as 0 on both sides, 1 more does not.

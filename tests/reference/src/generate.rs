@@ -2,16 +2,17 @@
 //!
 //! Valid jobs (`kinds`) lean to what is easy to get wrong: small boxes with many exact zeros at
 //! grid points, values at the readable limit, the largest coefficients and boxes, closed curves,
-//! all terms that a body may hold, sheets that almost touch. Each has a bias (`biases`), and sums at
-//! the bias and 1 past it. Their starts are searched for, so that most are crossed and traces are
-//! long. Other jobs (`changes`) are valid ones changed at the limits of a field, cut,
-//! lengthened or rebuilt; and plain noise. `places` has places to judge and to step from, `sums`
-//! has running sums to ask for.
+//! all terms that a body may hold, sheets that almost touch, points halfway between two steps
+//! (`halves`). Each has a bias (`biases`), and sums at the bias and 1 past it. Their starts are
+//! searched for, so that most are crossed and traces are long. Other jobs (`changes`) are valid
+//! ones changed at the limits of a field, cut, lengthened or rebuilt; and plain noise. `places` has
+//! places to judge and to step from, `sums` has running sums to ask for.
 //!
 //! What is tried has a name, and each input says by which names it was made: a test counts them.
 
 mod biases;
 mod changes;
+mod halves;
 mod kinds;
 mod places;
 mod random;
@@ -19,7 +20,7 @@ mod sums;
 
 pub use biases::Bias;
 pub use changes::{any_job, AnyJob, Change, Damage, JobTally};
-pub use kinds::{valid, valid_of_any, valid_small, vertex_in, Kind, Made};
+pub use kinds::{valid, valid_for_rounding, valid_of_any, valid_small, vertex_in, Kind, Made};
 pub use places::{any_place, AnyPlace, PlaceDamage, PlaceKind, PlaceTally};
 pub use random::Random;
 pub use sums::{any_sum, with_largest_terms, AnySum, CountKind, NumberKind, SumKinds, VertexKind};

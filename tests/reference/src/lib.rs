@@ -19,5 +19,6 @@ pub mod listing;
 pub mod marked;
 pub mod operations;
 pub mod product;
+pub mod roundings_met;
 pub mod sums_met;
 pub mod tally;

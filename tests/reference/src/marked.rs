@@ -1,5 +1,5 @@
-//! "Marked cases" A to J, their like in dimension 4 and at a bias, running sums, and the wrong
-//! turns, as checks of any product.
+//! "Marked cases" A to J, their like in dimension 4 and at a bias, running sums, halves of a step,
+//! and the wrong turns, as checks of any product.
 
 use crate::build::{case_a, case_c, exponents, gathered, place, power_of, term, Parts};
 use crate::crossed::Term;
@@ -46,6 +46,112 @@ pub const CASE_C_4_LISTING: &str = "4 edge 5
 0 0 0 0 9 11 15 0 0 0 0
 0 0 0 1 1 3 7 0 0 0 1024
 ";
+
+/// Counts of 1/2048 of a unit that are halves of a step, and the steps that they give.
+const HALVES: &[(i64, i64)] = &[
+    (1, 0),
+    (3, 2),
+    (5, 2),
+    (7, 4),
+    (-1, 0),
+    (-3, -2),
+    (-5, -2),
+    (-7, -4),
+    (2047, 1024),
+    (2045, 1022),
+    (2043, 1022),
+    (2041, 1020),
+    (-2047, -1024),
+    (-2045, -1022),
+    // About 255 and -255 units.
+    (522_241, 261_120),
+    (522_243, 261_122),
+    (522_239, 261_120),
+    (522_237, 261_118),
+    (-522_241, -261_120),
+    (-522_243, -261_122),
+];
+
+/// Coordinates of the upright curves of each dimension, as counts of 1/2048: of each the part above
+/// the unit below falls from axis to axis.
+const UPRIGHT: &[&[i64]] = &[
+    &[1],
+    &[3],
+    &[5],
+    &[7],
+    &[-1],
+    &[-3],
+    &[-5],
+    &[-7],
+    &[2047],
+    &[2045],
+    &[-2047],
+    &[-2045],
+    &[522_241],
+    &[522_243],
+    &[522_239],
+    &[522_237],
+    &[-522_241],
+    &[-522_243],
+    &[3, 1],
+    &[5, 3],
+    &[7, 5],
+    &[-1, -3],
+    &[-3, -5],
+    &[-5, -7],
+    &[-1, 7],
+    &[522_243, 522_241],
+    &[-522_241, -522_243],
+    &[5, 3, 1],
+    &[7, 5, 3],
+    &[-1, -3, -5],
+    &[-3, -5, -7],
+    &[-1, 7, 3],
+    &[-3, -7, 5],
+    &[522_239, 522_243, 522_241],
+    &[-522_241, -522_243, 1],
+];
+
+/// What the listing prints for some upright curves.
+pub const UPRIGHT_LISTINGS: [(&[i64], &str); 4] = [
+    (
+        &[-3],
+        "2 edge 3
+-1 0 1 -2 0
+-1 0 3 -2 1022
+-1 1 1 -2 1024
+",
+    ),
+    (
+        &[3, 1],
+        "3 edge 4
+0 0 0 1 3 2 0 0
+0 0 0 1 7 2 0 0
+0 0 0 5 7 2 0 2
+0 0 1 1 3 2 0 1024
+",
+    ),
+    (
+        &[5, 3, 1],
+        "4 edge 5
+0 0 0 0 1 3 7 2 2 0 0
+0 0 0 0 1 3 15 2 2 0 0
+0 0 0 0 1 11 15 2 2 0 2
+0 0 0 0 9 11 15 2 2 0 2
+0 0 0 1 1 3 7 2 2 0 1024
+",
+    ),
+    (
+        &[-1, -3, -5],
+        "4 edge 5
+-1 -1 -1 0 1 3 7 0 -2 -2 0
+-1 -1 -1 0 1 3 15 0 -2 -2 1022
+-1 -1 -1 0 1 11 15 0 -2 -2 1022
+-1 -1 -1 0 9 11 15 0 -2 -2 1024
+-1 -1 -1 1 1 3 7 0 -2 -2 1024
+",
+    ),
+];
 
 /// What the bytes past the last place hold before and after.
 const PATTERN: u8 = 0xa5;
@@ -316,8 +422,7 @@ fn values_around_the_bias(p: &dyn Product, n: usize, bias: u8) {
         assert_eq!(p.judge(&job, &start), Ok(at.is_ok()), "{low} and {high} at {bias}");
         let wanted = at.map(|steps: i64| vertex(&vec![steps; n - 1]));
         assert_eq!(p.point(&job, &start), wanted, "{low} and {high} at {bias}");
-        let millimetres = |v: [i64; 4]| [v[0], v[1], v[2]].map(|steps| steps as f64 / 1024.0);
-        assert_eq!(p.pen(&job, &start, false, 0), wanted.map(|v| Move::Lift(millimetres(v))));
+        assert_eq!(p.pen(&job, &start, false, 0), wanted.map(|v| Move::Lift(millimetres(&v))));
         // Where low counts as 0, all is as in C.
         if at == Ok(0) {
             let (verdict, places) = traced(p, &job, n, 9);
@@ -425,6 +530,143 @@ fn running_sums_in(p: &dyn Product, parts: &Parts, number: u64) {
     }
 }
 
+/// A job whose curve goes straight up along the last axis, the other coordinates being these counts
+/// of 1/2048: polynomial k is 2048 times axis k minus its count. D is above 0, and below 0 if one
+/// of the polynomials is turned.
+pub fn upright(counts: &[i64], turned: Option<usize>) -> Parts {
+    let n = counts.len() + 1;
+    let reach = if counts.iter().all(|count| count.abs() < 2048) { 1 } else { 256 };
+    let plane = |(k, &count): (usize, &i64)| {
+        let sign = if turned == Some(k) { -1 } else { 1 };
+        let exponents = power_of(k + 1, 1);
+        vec![term(-sign * count, &[]), Term { coefficient: sign * 2048, exponents }]
+    };
+    let mut lowest: Vec<i64> = counts.iter().map(|count| count.div_euclid(2048)).collect();
+    lowest.push(0);
+    let start = place(&lowest, &case_c(n).start.facet.masks[..n - 1], 0);
+    let mut ends = vec![(-reach, reach); n];
+    ends[n - 1] = (-1, 1);
+    Parts { n, bias: 0, ends, polynomials: counts.iter().enumerate().map(plane).collect(), start }
+}
+
+/// The steps of a count of 1/2048.
+fn steps_of(count: i64) -> i64 {
+    let row = HALVES.iter().find(|(halves, _)| *halves == count);
+    row.unwrap_or_else(|| panic!("{count} is in the table")).1
+}
+
+/// The places of an upright curve with their points. They are those of case C: the last axis enters
+/// the masks one by one from the last, where its coordinate is the part of an axis above its unit.
+fn upright_places(parts: &Parts, counts: &[i64]) -> Vec<(Place, Vec<i64>)> {
+    let n = parts.n;
+    let mut steps: Vec<i64> = counts.iter().map(|&count| steps_of(count)).collect();
+    steps.push(0);
+    let mut all = vec![(parts.start, steps.clone())];
+    let mut here = parts.start;
+    here.side = 1;
+    for k in (0..n - 1).rev() {
+        here.facet.masks[k] |= 1 << (n - 1);
+        steps[n - 1] = steps_of(counts[k].rem_euclid(2048));
+        all.push((here, steps.clone()));
+    }
+    let mut last = parts.start;
+    last.facet.lowest[n - 1] = 1;
+    steps[n - 1] = 1024;
+    all.push((last, steps));
+    all
+}
+
+/// Axes 1 to 3 of a point in steps, as the pen has them.
+fn millimetres(steps: &[i64]) -> [f64; 3] {
+    let at = vertex(steps);
+    [at[0], at[1], at[2]].map(|steps| steps as f64 / 1024.0)
+}
+
+/// The pen lifts or draws to a place of the list at exactly these floats: 0 is no -0.
+fn assert_moves_to(p: &dyn Product, job: &[u8], places: &[u8], k: usize, steps: &[i64]) {
+    let (is_lift, found) = match p.pen(job, places, false, k as u64) {
+        Ok(Move::Lift(at)) => (true, at),
+        Ok(Move::Draw(at)) => (false, at),
+        other => panic!("{other:?}"),
+    };
+    assert_eq!(is_lift, k == 0);
+    assert_eq!(found.map(f64::to_bits), millimetres(steps).map(f64::to_bits), "{steps:?}");
+}
+
+/// Request 2.5: points to the nearest step, a half to the even one.
+pub fn nearest_step(p: &dyn Product) {
+    for counts in UPRIGHT {
+        for turned in (0..counts.len()).map(Some).chain([None]) {
+            let parts = upright(counts, turned);
+            let (job, places) = (parts.bytes(), upright_places(&parts, counts));
+            // Facets and verdict are those of case C, whatever the rounding.
+            let expected: Vec<_> = places.iter().map(|(at, steps)| (*at, &steps[..])).collect();
+            assert_to_the_edge(p, &parts, &expected);
+            let written: Vec<u8> = places.iter().flat_map(|(place, _)| place.bytes()).collect();
+            for (k, (place, steps)) in places.iter().enumerate() {
+                assert_eq!(p.judge(&job, &place.bytes()), Ok(true));
+                assert_moves_to(p, &job, &written, k, steps);
+            }
+        }
+    }
+    // Case A keeps its points, and has them with its polynomial turned too.
+    let mut turned = case_a();
+    turned.polynomials[0].iter_mut().for_each(|t| t.coefficient = -t.coefficient);
+    for job in [case_a().bytes(), turned.bytes()] {
+        for (lowest, mask, steps) in CASE_A_PLACES {
+            let here = place(&lowest, &[mask], 0).bytes();
+            assert_eq!(p.point(&job, &here), Ok(vertex(&steps)));
+            assert_moves_to(p, &job, &here, 0, &steps);
+        }
+    }
+    close_to_halves(p);
+}
+
+/// c / q of a unit that is no half of a step, and the steps that it gives.
+const CLOSE_TO_HALVES: &[(i64, i64, i64)] = &[
+    // -0.3, 0.3, -0.7 and 0.7 steps.
+    (-3, 10_240, 0),
+    (3, 10_240, 0),
+    (-7, 10_240, -1),
+    (7, 10_240, 1),
+    // 1/10 of a step below and above a half.
+    (4, 10_240, 0),
+    (6, 10_240, 1),
+    (14, 10_240, 1),
+    (16, 10_240, 2),
+    (-4, 10_240, 0),
+    (-6, 10_240, -1),
+    (-14, 10_240, -1),
+    (-16, 10_240, -2),
+    // As close as an odd q allows: 1024 leaves (q + 1) / 2 or (q - 1) / 2.
+    (1, 2_047, 1),
+    (1, 2_049, 0),
+    (3, 2_047, 2),
+    (3, 2_049, 1),
+    (-1, 2_047, -1),
+    (-1, 2_049, 0),
+    (-3, 2_047, -2),
+    (-3, 2_049, -1),
+];
+
+/// The start of case C with q x - c in place of x, of either sign; the other coordinates are 0.
+fn close_to_halves(p: &dyn Product) {
+    for &(c, q, steps) in CLOSE_TO_HALVES {
+        for n in DIMENSIONS {
+            for sign in [1, -1] {
+                let mut parts = case_c(n);
+                parts.ends[0] = (-1, 1);
+                parts.polynomials[0] = vec![term(-sign * c, &[]), term(sign * q, &[1])];
+                parts.start.facet.lowest[0] = if c < 0 { -1 } else { 0 };
+                let (job, start) = (parts.bytes(), parts.start.bytes());
+                assert_eq!(p.judge(&job, &start), Ok(true), "{c} / {q}");
+                assert_eq!(p.point(&job, &start), Ok(vertex(&[steps])), "{c} / {q}");
+                assert_moves_to(p, &job, &start, 0, &[steps]);
+            }
+        }
+    }
+}
+
 /// The five wrong turns.
 pub fn wrong_turns(p: &dyn Product) {
     // A zero counted as both high and low: a triangle of values 0, 1, -1 has two crossed facets.
@@ -449,10 +691,11 @@ pub fn wrong_turns(p: &dyn Product) {
     let (verdict, places) = traced(p, &taller.bytes(), 3, 20);
     assert_eq!((verdict, places.len()), (Verdict::Edge, 7));
     assert_eq!(places[6], place(&[0, 0, 2], &[1, 3], 0));
-    // Rounding -0.3 steps: 10,240 x + 3 is zero at x = -0.3 / 1024.
+    // Rounding -0.3 steps, which by request 2.5 is 0: 10,240 x + 3 is zero at x = -0.3 / 1024.
     let slight = Parts { polynomials: vec![vec![term(3, &[]), term(10_240, &[1])]], ..case_a() };
     let here = place(&[-1, 0], &[1], 0);
-    assert_eq!(p.point(&slight.bytes(), &here.bytes()), Ok(vertex(&[-1])));
+    assert_eq!(p.point(&slight.bytes(), &here.bytes()), Ok(vertex(&[0])));
+    assert_moves_to(p, &slight.bytes(), &here.bytes(), 0, &[0]);
     // A full buffer when the next facet is the start: case B with space for 6.
     assert_eq!(traced(p, &case_a().bytes(), 2, 6).0, Verdict::Loop);
 }

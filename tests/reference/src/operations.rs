@@ -1,7 +1,7 @@
 //! "Operations and what they turn down". Each opens the job first; its own refusals are
 //! tested in the order written. A refusal is its number alone and no buffer is touched.
 
-use crate::crossed::{self, column, is_crossed, running_sums, sum, Column};
+use crate::crossed::{self, column, is_crossed, running_sums, sum, Column, Fraction};
 use crate::grid::{vertex, Facet, Place, Vertex};
 use crate::job::{open, Job};
 use crate::limits::MOST;
@@ -77,12 +77,19 @@ pub fn judge(job: &[u8], place: &[u8]) -> Result<bool, u8> {
     Ok(is_crossed(&columns[..job.n]))
 }
 
+/// The exact coordinates of the facet's point, in steps, before they are rounded.
+pub fn exact_point(job: &Job, facet: &Facet) -> Result<Vec<Fraction>, u8> {
+    let columns = crossed_columns(job, facet)?;
+    Ok(crossed::exact_point(facet, &columns[..job.n]))
+}
+
 fn point_of(job: &Job, facet: &Facet) -> Result<Vertex, u8> {
     let columns = crossed_columns(job, facet)?;
     Ok(crossed::point(facet, &columns[..job.n]))
 }
 
-/// **Point.** 13, 9, 10, then 11 not crossed; else the coordinates in steps of 1/1024.
+/// **Point.** 13, 9, 10, then 11 not crossed; else the coordinates, each at the nearest step of
+/// 1/1024, a half at the even one.
 pub fn point(job: &[u8], place: &[u8]) -> Result<Vertex, u8> {
     let job = open(job)?;
     let place = Place::read(job.n, place).ok_or(13)?;

@@ -78,6 +78,17 @@ impl<T: Ord + Copy + Debug> Tally<T> {
         }
     }
 
+    /// Fails unless each of these was met at least so often in each dimension.
+    pub fn assert_often(&self, least: u64, wanted: &[T]) {
+        for n in DIMENSIONS {
+            let counts = self.of(n);
+            for case in wanted {
+                let count = counts.get(case).copied().unwrap_or(0);
+                assert!(count >= least, "{case:?} was met {count} times in dimension {n}");
+            }
+        }
+    }
+
     /// Fails unless as many were met in the largest dimension as in each other.
     pub fn assert_most_in_largest(&self) {
         let totals = self.0.iter().map(|(&n, counts)| (counts.values().sum::<u64>(), n));

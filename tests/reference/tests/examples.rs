@@ -13,14 +13,16 @@ fn examples() -> PathBuf {
     Path::new(env!("CARGO_MANIFEST_DIR")).join("../../examples")
 }
 
-/// Name, verdict and count, curve, of each row of the table.
+/// Name, verdict and count, curve, of each row of the table of jobs, which is the first that has
+/// names; the page may have other tables behind it.
 fn rows() -> Vec<[String; 3]> {
     let text = std::fs::read_to_string(examples().join("README.md")).expect("the table");
     let cells = |line: &str| -> Vec<String> {
         line.split('|').map(|cell| cell.trim().to_string()).collect()
     };
-    let lines = text.lines().filter(|line| line.starts_with("| ") && !line.starts_with("| Name"));
-    lines
+    let table = text.lines().skip_while(|line| !line.starts_with("| Name")).skip(2);
+    table
+        .take_while(|line| line.starts_with("| "))
         .map(|line| {
             let c = cells(line);
             [c[1].clone(), c[3].clone(), c[4].clone()]

@@ -1,9 +1,9 @@
-//! Cases A to J, their like in dimension 4 and at a bias, running sums, and the wrong turns on
-//! the reference.
+//! Cases A to J, their like in dimension 4 and at a bias, running sums, halves of a step, and the
+//! wrong turns on the reference.
 
 use reference::build::{case_a, case_c};
 use reference::listing::listing;
-use reference::marked::{self, CASE_A_LISTING, CASE_C_4_LISTING};
+use reference::marked::{self, upright, CASE_A_LISTING, CASE_C_4_LISTING, UPRIGHT_LISTINGS};
 use reference::product::Reference;
 
 #[test]
@@ -27,6 +27,11 @@ fn running_sums() {
 }
 
 #[test]
+fn nearest_step() {
+    marked::nearest_step(&Reference);
+}
+
+#[test]
 fn wrong_turns() {
     marked::wrong_turns(&Reference);
 }
@@ -35,6 +40,11 @@ fn wrong_turns() {
 fn listings() {
     assert_eq!(listing(&case_a().bytes()), CASE_A_LISTING);
     assert_eq!(listing(&case_c(4).bytes()), CASE_C_4_LISTING);
+    for (counts, text) in UPRIGHT_LISTINGS {
+        for turned in (0..counts.len()).map(Some).chain([None]) {
+            assert_eq!(listing(&upright(counts, turned).bytes()), text);
+        }
+    }
     assert_eq!(listing(&[]), "refused 1\n");
     assert_eq!(listing(&[0; 2048]), "refused 2\n");
     assert_eq!(listing(&[0; 2049]), "refused 5\n");

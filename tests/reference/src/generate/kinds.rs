@@ -1,6 +1,7 @@
 //! Jobs that open, by kind.
 
 use super::biases::{scaled, Bias};
+use super::halves::{almost_halfway, almost_halves, halfway, halves, large_halves};
 use super::random::Random;
 use crate::build::{exponents, gathered, power_of, product, term, within_limits, Parts};
 use crate::crossed::{sum, value, Term};
@@ -19,19 +20,28 @@ named! {
         /// Products of linear forms: 0 at many grid points.
         ManyZeros: 3,
         /// Few large terms: values below, at and above the readable limit.
-        AroundReadableLimit: 1,
+        AroundReadableLimit: 2,
         /// A curve along axis 1 out of the readable values: the trace ends at the limit.
-        IntoReadableLimit: 2,
+        IntoReadableLimit: 3,
         /// A box up to the largest.
-        LargeBox: 2,
+        LargeBox: 3,
         /// Each term that a body may hold, with coefficients up to the largest.
         AllTerms: 1,
         /// An ellipse, or an ellipsoid cut by other surfaces: mostly closed.
         Closed: 2,
         /// Two sheets that almost touch at the origin, cut by planes: a bias may join them.
         AlmostTouching: 2,
+        /// Planes, at times with a ball: points at odd counts of half steps.
+        Halves: 2,
+        /// The like along axis 1 out of the readable values: D is large.
+        LargeHalves: 1,
+        /// Planes with points one part of an odd number from a half.
+        AlmostHalves: 1,
     }
 }
+
+/// The kinds that are for how points are rounded.
+const FOR_ROUNDING: [Kind; 3] = [Kind::Halves, Kind::LargeHalves, Kind::AlmostHalves];
 
 /// By which names a job that opens was made.
 #[derive(Clone, Copy, PartialEq, Eq, PartialOrd, Ord)]
@@ -59,12 +69,12 @@ impl Tally<Made> {
 
 /// How large jobs are, so that a search for a start and a trace take not much longer in one
 /// dimension than in another.
-struct Scale {
+pub struct Scale {
     n: usize,
     /// How often a job is of this dimension: most often of the largest.
     weight: u64,
     /// Reach and longest side of a small box.
-    small: (i64, i64),
+    pub small: (i64, i64),
     /// The most linear forms in a product.
     forms: u64,
     /// Reach and longest side of a box around the readable limit.
@@ -125,7 +135,7 @@ const SCALES: [Scale; 3] = [
     },
 ];
 
-fn scale(n: usize) -> &'static Scale {
+pub fn scale(n: usize) -> &'static Scale {
     SCALES.iter().find(|row| row.n == n).expect("a dimension of the table")
 }
 
@@ -135,10 +145,10 @@ fn any_dimension(r: &mut Random) -> usize {
 }
 
 /// The box: per axis the low and high end.
-type Ends = Vec<(i64, i64)>;
+pub type Ends = Vec<(i64, i64)>;
 
 /// A box within `reach` of the origin, no side longer than `longest`.
-fn random_box(r: &mut Random, n: usize, reach: i64, longest: i64) -> Ends {
+pub fn random_box(r: &mut Random, n: usize, reach: i64, longest: i64) -> Ends {
     (0..n)
         .map(|_| {
             let low = r.between(-reach, reach - 1);
@@ -179,7 +189,7 @@ fn nonempty(r: &mut Random, n: usize, terms: Vec<Term>) -> Vec<Term> {
 
 /// An axis for each polynomial, all different: with a linear term of its own each, the
 /// polynomials mostly have a common curve.
-fn own_axes(r: &mut Random, n: usize) -> &'static [usize] {
+pub fn own_axes(r: &mut Random, n: usize) -> &'static [usize] {
     let all = orders(n);
     &all[r.index(all.len())][..n - 1]
 }
@@ -250,7 +260,7 @@ fn through(r: &mut Random, terms: &[Term], at: &Vertex, bias: u8) -> Vec<Term> {
 }
 
 /// The coefficient c for which c x^2 is readable up to x = 16.
-fn readable_to_16(n: usize) -> i64 {
+pub fn readable_to_16(n: usize) -> i64 {
     (Limits::of(n).readable / 256) as i64
 }
 
@@ -272,13 +282,19 @@ fn around_readable_limit(r: &mut Random, n: usize) -> (Ends, Vec<Vec<Term>>) {
     (ends, own_axes(r, n).iter().map(|&axis| large_terms(r, axis)).collect())
 }
 
+/// A box around axis 1, from below x = 16 to above it.
+pub fn along_axis_1(r: &mut Random, n: usize) -> Ends {
+    let mut ends = vec![(r.between(-3, 14), r.between(15, 20))];
+    let (below, above) = scale(n).beside_axis;
+    ends.extend((1..n).map(|_| (-r.between(1, below), r.between(1, above))));
+    ends
+}
+
 /// Polynomial k is c x^2 times axis k + 1, about: it is 0 along axis 1, and beside it readable
 /// up to x = 16, where it may be at the limit or pass it by one. All but the first may be
 /// a product of linear forms instead.
 fn into_readable_limit(r: &mut Random, n: usize) -> (Ends, Vec<Vec<Term>>) {
-    let mut ends = vec![(r.between(-3, 14), r.between(15, 20))];
-    let (below, above) = scale(n).beside_axis;
-    ends.extend((1..n).map(|_| (-r.between(1, below), r.between(1, above))));
+    let ends = along_axis_1(r, n);
     let full = readable_to_16(n);
     let size = r.pick(&[full, full, full, -full, full - 1, full / 4]);
     let mut polynomials = Vec::new();
@@ -392,6 +408,9 @@ fn surfaces(r: &mut Random, n: usize, kind: Kind) -> (Ends, Vec<Vec<Term>>) {
         Kind::AllTerms => all_terms(r, n),
         Kind::Closed => closed(r, n),
         Kind::AlmostTouching => almost_touching(r, n),
+        Kind::Halves => halves(r, n),
+        Kind::LargeHalves => large_halves(r, n),
+        Kind::AlmostHalves => almost_halves(r, n),
     }
 }
 
@@ -479,10 +498,29 @@ fn choose_start(r: &mut Random, parts: &mut Parts, near: &Vertex) {
 /// A vertex that is to be close to the curve.
 fn near_curve(r: &mut Random, kind: Kind, ends: &Ends) -> Vertex {
     match kind {
-        Kind::IntoReadableLimit => vertex(&[r.between(ends[0].0, 15).max(r.between(0, 15))]),
+        Kind::IntoReadableLimit | Kind::LargeHalves => {
+            vertex(&[r.between(ends[0].0, 15).max(r.between(0, 15))])
+        }
         Kind::AlmostTouching => vertex(&[]),
+        // Coordinates around 0, of both signs.
+        Kind::Halves if r.once_in(2) => {
+            vertex(&ends.iter().map(|&(low, high)| 0.clamp(low, high)).collect::<Vec<_>>())
+        }
         _ if r.once_in(4) => vertex_in(r, ends),
         _ => inner_vertex(r, ends),
+    }
+}
+
+/// Whether the polynomials of a kind keep their size, and whether they stay where they are meant to
+/// be.
+fn keeps(kind: Kind) -> (bool, bool) {
+    match kind {
+        Kind::AroundReadableLimit | Kind::LargeBox | Kind::AllTerms => (true, false),
+        Kind::Closed => (false, true),
+        Kind::IntoReadableLimit | Kind::Halves | Kind::LargeHalves | Kind::AlmostHalves => {
+            (true, true)
+        }
+        Kind::Small | Kind::ManyZeros | Kind::AlmostTouching => (false, false),
     }
 }
 
@@ -491,15 +529,10 @@ fn near_curve(r: &mut Random, kind: Kind, ends: &Ends) -> Vertex {
 fn choose_bias(r: &mut Random, kind: Kind, parts: &mut Parts, near: &Vertex) -> Bias {
     let bias: Bias = r.named();
     let number = bias.number(r);
-    let has_large_values = matches!(
-        kind,
-        Kind::AroundReadableLimit | Kind::IntoReadableLimit | Kind::LargeBox | Kind::AllTerms
-    );
-    // These two are where they are meant to be.
-    let keeps = matches!(kind, Kind::IntoReadableLimit | Kind::Closed);
-    let moves = !keeps && !r.once_in(4);
+    let (keeps_size, stays) = keeps(kind);
+    let moves = !stays && !r.once_in(4);
     for p in &mut parts.polynomials {
-        if !has_large_values {
+        if !keeps_size {
             *p = scaled(r, p, number.unwrap_or(0));
         }
         if moves {
@@ -519,8 +552,15 @@ fn choose_bias(r: &mut Random, kind: Kind, parts: &mut Parts, near: &Vertex) -> 
 
 /// A job of a kind; its start is searched for or left as it comes.
 pub fn valid_of(r: &mut Random, n: usize, kind: Kind, search: bool) -> (Made, Parts) {
-    let (ends, polynomials) = surfaces(r, n, kind);
+    let (ends, mut polynomials) = surfaces(r, n, kind);
     let near = near_curve(r, kind, &ends);
+    for p in &mut polynomials {
+        match kind {
+            Kind::Halves => *p = halfway(r, p, &near),
+            Kind::AlmostHalves => *p = almost_halfway(r, p, &near),
+            _ => {}
+        }
+    }
     let facet = Facet { n, lowest: near, masks: r.pick(chains(n)) };
     let start = Place { facet, side: r.below(2) as u8 };
     let mut parts = Parts { n, bias: 0, ends, polynomials, start };
@@ -554,14 +594,22 @@ pub fn valid(r: &mut Random) -> (Made, Parts) {
     valid_in(r, n)
 }
 
-/// A job of dimension n in a box small enough to be looked at whole.
+/// A job of dimension n in a box small enough to be looked at whole, for what facets are joined.
+/// Rounding has no part in that, so the kinds that are for it are left out.
 pub fn valid_small(r: &mut Random, n: usize) -> (Made, Parts) {
     loop {
         let kind = r.named();
-        if !matches!(kind, Kind::LargeBox | Kind::AllTerms) {
+        let is_large = matches!(kind, Kind::LargeBox | Kind::AllTerms);
+        if !is_large && !FOR_ROUNDING.contains(&kind) {
             return valid_of(r, n, kind, true);
         }
     }
+}
+
+/// A job of any dimension and of a kind that is for rounding.
+pub fn valid_for_rounding(r: &mut Random) -> (Made, Parts) {
+    let (n, kind) = (any_dimension(r), r.pick(&FOR_ROUNDING));
+    valid_of(r, n, kind, true)
 }
 
 #[cfg(test)]
@@ -589,7 +637,7 @@ mod tests {
         for n in DIMENSIONS {
             let mut r = Random::new(1);
             let mut refused = 0;
-            let count = 6_000;
+            let count = 9_000;
             for _ in 0..count {
                 let (made, parts) = valid_in(&mut r, n);
                 open(&parts.bytes()).expect("a valid job");
@@ -632,6 +680,9 @@ mod tests {
                 Kind::AllTerms => &[Ok(Verdict::Edge)],
                 Kind::Closed => &[Ok(Verdict::Loop)],
                 Kind::AlmostTouching => &[Ok(Verdict::Loop), Ok(Verdict::Edge)],
+                Kind::Halves => &[Ok(Verdict::Loop), Ok(Verdict::Edge)],
+                Kind::LargeHalves => &[Ok(Verdict::Limit)],
+                Kind::AlmostHalves => &[Ok(Verdict::Edge)],
             });
         }
     }
