@@ -143,11 +143,8 @@ size-positive (negsuc n) h = omega arith
 -- two of them are less than two apart, and if they were one apart, both would be even
 pub nearest-unique : (a d z w : ℤ) → d ≢ 0ℤ → IsNearest a d z → IsNearest a d w → z ≡ w
 nearest-unique a d z w nonzero h k =
-    sym (add-zero z) ∙ ap (λ t. z ⊕ t) (sym (size-zero apart none)) ∙ sym step
+    sym (add-zero z) ∙ ap (λ t. z ⊕ t) (sym (size-zero (w ⊖ z) none)) ∙ sym step
   where
-    apart : ℤ
-    apart = w ⊖ z
-
     step : w ≡ z ⊕ (w ⊖ z)
     step = solve (var 1) (var 0 :+ (var 1 :- var 0)) (z ∷ w ∷ []) refl
 
