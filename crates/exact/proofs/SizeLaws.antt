@@ -9,7 +9,7 @@ use lib.Dec.{lit<}
 use mir.Syntax.{Width, w64}
 use mir.Val.{SFits, hbits, toZ, ofZ}
 use mir.ValLaws.{toZ-ofZ}
-use Rattle.exact.specs.Int.{_⊕_, _⊖_, _⊗_, neg, power}
+use Rattle.exact.specs.Int.{_⊕_, _⊖_, _⊗_, neg, power, 0ℤ}
 use Rattle.exact.specs.Size.{Size}
 use Rattle.exact.proofs.Linear.{diff, up, down, split, diff-add, diff-eq, pos-diff, negsuc-diff}
 use Rattle.exact.proofs.Ring.{neg-is, sub-eq}
@@ -36,6 +36,11 @@ natAbs-negℤ (negsuc n) = refl
 
 pub natAbs-neg : (a : ℤ) → natAbs (neg a) ≡ natAbs a
 natAbs-neg a = ap natAbs (neg-is a) ∙ natAbs-negℤ a
+
+-- only 0 has size 0
+pub natAbs-zero : (z : ℤ) → natAbs z ≡ 0 → z ≡ 0ℤ
+natAbs-zero (pos n) h = ap pos h
+natAbs-zero (negsuc n) h = absurd (omega arith)
 
 pub natAbs-mul : (a b : ℤ) → natAbs (a ⊗ b) ≡ natAbs a * natAbs b
 unfolding _⊗_

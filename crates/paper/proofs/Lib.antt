@@ -15,6 +15,7 @@ pub mod Terms
 pub mod Taken
 pub mod AnyOrder
 pub mod SumFromTop
+pub mod TurnedDown
 pub mod ShortPlaces
 pub mod WordBytes
 pub mod Encode

@@ -23,7 +23,7 @@ use Rattle.paper.specs.Operations.{unless, openValues, opened, polynomia
 use Rattle.paper.specs.Demand3.{InCurve}
 use Rattle.paper.specs.Bias.{withBias, biasedField, fieldWithoutBias, openRefusalWithoutBias}
 use Rattle.paper.proofs.Tests.{all-same}
-use Rattle.paper.proofs.Refusals.{refuse-here, refuse-later, unless-refused}
+use Rattle.paper.proofs.Refusals.{refuse-here, refuse-later, answered-later, unless-refused}
 use Rattle.paper.proofs.Opens.{Opens, opens}
 use Rattle.paper.proofs.Bodies.{contents-before}
 use Rattle.paper.proofs.WithStart.{entries-same, map-same, sums-same}
@@ -115,23 +115,18 @@ refusal-2 s = (
   λ w. refuse-later 1 _ (le-ltb (length s) 4 (w .0)) ∙ refuse-here 2 _ (ap not (ne-eqb (byte s 0) 1 (w .1))),
 )
   where
-    -- a test with another number does not answer 2
-    later : (t : Bool) (k rest : ℕ) → k ≢ 2 → refuseIf t k rest ≡ 2 → rest ≡ 2
-    later true k rest d h = unfold refuseIf in absurd (d h)
-    later false k rest d h = unfold refuseIf in h
-
     go : openRefusal s ≡ 2 → (t u : Bool) → ltb (length s) 4 ≡ t → eqb (byte s 0) 1 ≡ u → (4 ≤ length s) × (byte s 0 ≢ 1)
     go h true u e f = unfold openRefusal in let z : _≡_ {A = ℕ} 1 2 = sym (refuse-here 1 _ e) ∙ h in absurd (omega arith)
     go h false false e f = (ltb-false _ _ e, eqb-false _ _ f)
     go h false true e f = unfold openRefusal in
-        let r2 = later _ 1 _ (λ z. omega arith) h in
+        let r2 = answered-later _ 1 _ (λ z. omega arith) h .next in
         let r3 = sym (refuse-later 2 _ (ap not f)) ∙ r2 in
-        let r4 = later _ 3 _ (λ z. omega arith) r3 in
-        let r5 = later _ 4 _ (λ z. omega arith) r4 in
-        let r6 = later _ 5 _ (λ z. omega arith) r5 in
-        let r7 = later _ 6 _ (λ z. omega arith) r6 in
-        let r8 = later _ 7 _ (λ z. omega arith) r7 in
-        let z : _≡_ {A = ℕ} 0 2 = later _ 8 _ (λ z. omega arith) r8 in
+        let r4 = answered-later _ 3 _ (λ z. omega arith) r3 .next in
+        let r5 = answered-later _ 4 _ (λ z. omega arith) r4 .next in
+        let r6 = answered-later _ 5 _ (λ z. omega arith) r5 .next in
+        let r7 = answered-later _ 6 _ (λ z. omega arith) r6 .next in
+        let r8 = answered-later _ 7 _ (λ z. omega arith) r7 .next in
+        let z : _≡_ {A = ℕ} 0 2 = answered-later _ 8 _ (λ z. omega arith) r8 .next in
         absurd (omega arith)
 
 -- ---- a job that opens

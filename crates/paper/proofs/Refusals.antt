@@ -1,6 +1,7 @@
 -- A chain of refusals, taken apart: what holds if nothing refuses, and what the chain is once a test is known.
 use mathlib.Core.Path.{_≡_, refl}
 use mathlib.Core.Bool.{Bool, true, false}
+use mathlib.Core.Logic.{_≢_}
 use mathlib.Core.List.{List, []}
 use Prim.Native.Nat.{ℕ, suc, zero, _<_}
 use native.Mathlib.Omega.{arith}
@@ -9,15 +10,19 @@ use Rattle.paper.specs.Operations.{refused, answered, unless, firstRefus
 
 -- ---- one test
 
--- no refusal: the test failed and the rest refuses nothing
-pub record NotRefused (t : Bool) (rest : ℕ) : Type 0 where
+-- another number than the test's own is answered: the test failed, and the rest answers it
+pub record AnsweredLater (t : Bool) (rest m : ℕ) : Type 0 where
   pub test : t ≡ false
-  pub next : rest ≡ 0
+  pub next : rest ≡ m
 
-pub not-refused : (t : Bool) (k rest : ℕ) → 0 < k → refuseIf t k rest ≡ 0 → NotRefused t rest
+pub answered-later : (t : Bool) (k rest : ℕ) {m : ℕ} → k ≢ m → refuseIf t k rest ≡ m → AnsweredLater t rest m
 unfolding refuseIf
-not-refused true k rest p h = absurd (omega arith)
-not-refused false k rest p h = record { test = refl; next = h }
+answered-later true k rest d h = absurd (d h)
+answered-later false k rest d h = record { test = refl; next = h }
+
+-- no refusal
+pub not-refused : (t : Bool) (k rest : ℕ) → 0 < k → refuseIf t k rest ≡ 0 → AnsweredLater t rest 0
+not-refused t k rest p h = answered-later t k rest (λ z. omega arith) h
 
 pub refuse-here : {t : Bool} (k rest : ℕ) → t ≡ true → refuseIf t k rest ≡ k
 unfolding refuseIf

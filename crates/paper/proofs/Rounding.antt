@@ -21,7 +21,7 @@ use Rattle.exact.specs.Det.{Column, determinant}
 use Rattle.exact.proofs.Linear.{diff, up, down, split, linear, diff-add, diff-eq, pos-diff, negsuc-diff}
 use Rattle.exact.proofs.Solver.{var, con, _:+_, _:-_, _:*_, :neg, solve}
 use Rattle.exact.proofs.Ring.{add-zero}
-use Rattle.exact.proofs.SizeLaws.{natAbs-add, natAbs-neg, natAbs-mul}
+use Rattle.exact.proofs.SizeLaws.{natAbs-add, natAbs-neg, natAbs-zero, natAbs-mul}
 use Rattle.exact.proofs.SignLaws.{sign-zero}
 use Rattle.exact.proofs.Weights.{crossed-nonzero}
 use Rattle.curves.specs.Grid.{Vertex, Facet, facetVertices}
@@ -131,10 +131,6 @@ multiple-size a d z =
     let same : a ⊕ neg (a ⊖ z ⊗ d) ≡ z ⊗ d = solve (var 0 :+ :neg (var 0 :- var 2 :* var 1)) (var 2 :* var 1) (a ∷ d ∷ z ∷ []) refl in
     omega (arith, natAbs-mul z d, ap natAbs same, natAbs-add a (neg (a ⊖ z ⊗ d)), natAbs-neg (a ⊖ z ⊗ d))
 
-size-zero : (z : ℤ) → natAbs z ≡ 0 → z ≡ 0ℤ
-size-zero (pos n) h = ap pos h
-size-zero (negsuc n) h = absurd (omega arith)
-
 size-positive : (d : ℤ) → d ≢ 0ℤ → 0 < natAbs d
 size-positive (pos zero) h = absurd (h refl)
 size-positive (pos (suc n)) h = omega arith
@@ -143,7 +139,7 @@ size-positive (negsuc n) h = omega arith
 -- two of them are less than two apart, and if they were one apart, both would be even
 pub nearest-unique : (a d z w : ℤ) → d ≢ 0ℤ → IsNearest a d z → IsNearest a d w → z ≡ w
 nearest-unique a d z w nonzero h k =
-    sym (add-zero z) ∙ ap (λ t. z ⊕ t) (sym (size-zero (w ⊖ z) none)) ∙ sym step
+    sym (add-zero z) ∙ ap (λ t. z ⊕ t) (sym (natAbs-zero (w ⊖ z) none)) ∙ sym step
   where
     step : w ≡ z ⊕ (w ⊖ z)
     step = solve (var 1) (var 0 :+ (var 1 :- var 0)) (z ∷ w ∷ []) refl

@@ -138,13 +138,13 @@ last-next b v k l =
 
 -- ---- a body's terms are within the limits
 
-exponents-sum : (b : List ℕ) (i : ℕ) → exponentSum (termOf b i .exponents) ≡ degree b i
+pub exponents-sum : (b : List ℕ) (i : ℕ) → exponentSum (termOf b i .exponents) ≡ degree b i
 unfolding exponentSum termOf degree countFrom
 exponents-sum b i = omega arith
 
-pub terms-within : (n : ℕ) (b : List ℕ) → n ≤ 4 → polynomialOk n b ≡ true → termCount b ≤ termLimit n → TermsWithin n (termsOf b)
+pub terms-within : (n : ℕ) (b : List ℕ) → polynomialOk n b ≡ true → termCount b ≤ termLimit n → TermsWithin n (termsOf b)
 unfolding termsOf termOf
-terms-within n b d h l =
+terms-within n b h l =
     record {
       count = subst (λ (c : ℕ). c ≤ termLimit n) (sym (terms-counted b)) l;
       each = every-all termWithin (termOf b) (termCount b) each;
@@ -152,7 +152,7 @@ terms-within n b d h l =
   where
     each : (i : ℕ) → i < termCount b → termWithin (termOf b i) ≡ true
     each i u =
-        let t = polynomial-term n b h i d u in
+        let t = polynomial-term n b h i u in
         unfold termWithin in and-true (le-leb _ _ (t .size)) (le-leb _ _ (subst (λ (e : ℕ). e ≤ degreeLimit) (sym (exponents-sum b i)) (t .sum)))
 
 -- ---- a vertex of the box is within the limits
@@ -175,9 +175,9 @@ inside-within n b v o h = from 0 v (omega arith)
 
 -- ---- every order of a polynomial's terms
 
-module _ (n : ℕ) (b : List ℕ) (v : Vertex) (d : n ≤ 4) (ok : polynomialOk n b ≡ true) (count : termCount b ≤ termLimit n) (near : vertexWithin v ≡ true) where
+module _ (n : ℕ) (b : List ℕ) (v : Vertex) (ok : polynomialOk n b ≡ true) (count : termCount b ≤ termLimit n) (near : vertexWithin v ≡ true) where
   pub body-any-order : AnyOrder n v (termsOf b)
-  body-any-order = order-cannot-matter n v (termsOf b) near (terms-within n b d ok count)
+  body-any-order = order-cannot-matter n v (termsOf b) near (terms-within n b ok count)
 
   -- the sum of the last k terms
   pub last-size : (k : ℕ) → length v ≤ 4 → k ≤ termCount b → Size (partialSumLimit n) (sumOfLast b v k)
@@ -195,7 +195,7 @@ job-any-order s e k p u v h inside =
     let o = opens s e in
     let four : length v ≤ 4 = omega (arith, opens-range o .high) in
     let near = inside-within (dimension s) (body s 0) v (o .box) (omega arith) inside in
-    let any = body-any-order (dimension s) (body s k) v (opens-range o .high) (o .polynomial k p u) (terms-high o k p u) near in
+    let any = body-any-order (dimension s) (body s k) v (o .polynomial k p u) (terms-high o k p u) near in
     record { any-order = any; sum = λ us q. any .same-sum us q ∙ first-to-last (body s k) v four }
 
 -- ---- the operation

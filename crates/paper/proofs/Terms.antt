@@ -59,9 +59,9 @@ pub record TermRange (n : ℕ) (b : List ℕ) (i : ℕ) : Type 0 where
   pub above : (a : ℕ) → n ≤ a → a < 4 → exponentOf b i a ≡ 0
   pub sum : degree b i ≤ degreeLimit
 
-pub term-range : (n : ℕ) (b : List ℕ) (i : ℕ) → n ≤ 4 → termOk n b i ≡ true → TermRange n b i
+pub term-range : (n : ℕ) (b : List ℕ) (i : ℕ) → termOk n b i ≡ true → TermRange n b i
 unfolding termOk exponentsZero
-term-range n b i l h =
+term-range n b i h =
     let c1 : Bool = not (eqb (natAbs (coefficientOf b i)) 0) in
     let c2 : Bool = leb (natAbs (coefficientOf b i)) coefficientLimit in
     let c3 : Bool = exponentsZero b i n (4 - n) in
@@ -89,8 +89,8 @@ module _ (n : ℕ) (b : List ℕ) (h : polynomialOk n b ≡ true) where
   unfolding polynomialOk
   term-at i l = all-at (λ k. termOk n b k && rises b k) 0 (termCount b) i h (omega arith) (omega arith)
 
-  pub polynomial-term : (i : ℕ) → n ≤ 4 → i < termCount b → TermRange n b i
-  polynomial-term i l u = term-range n b i l (and-left (termOk n b i) (rises b i) (term-at i u))
+  pub polynomial-term : (i : ℕ) → i < termCount b → TermRange n b i
+  polynomial-term i u = term-range n b i (and-left (termOk n b i) (rises b i) (term-at i u))
 
   -- terms rise strictly
   pub terms-rise : (i : ℕ) → 0 < i → i < termCount b → exponentWeight b (i - 1) < exponentWeight b i

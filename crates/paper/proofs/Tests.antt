@@ -1,6 +1,6 @@
 -- Boolean tests taken apart: a test that holds for each number of a range, and the range of the dimensions.
-use mathlib.Core.Path.{_≡_, refl, subst}
-use mathlib.Core.Bool.{Bool, true, false}
+use mathlib.Core.Path.{_≡_, refl, sym, subst, _∙_}
+use mathlib.Core.Bool.{Bool, true, false, true≢false}
 use mathlib.Core.List.{map}
 use Prim.Native.Nat.{ℕ, suc, zero, _+_, _≤_, _<_}
 use native.Mathlib.Omega.{arith}
@@ -39,6 +39,44 @@ all-first t k m h = rw h
 pub all-fails : (t : ℕ → Bool) (k m : ℕ) → t k ≡ false → allFrom t k (suc m) ≡ false
 unfolding allFrom
 all-fails t k m h = rw h
+
+-- the first number of a range at which a test fails
+pub record Failing (t : ℕ → Bool) (k m : ℕ) : Type 0 where
+  pub at : ℕ
+  pub from : k ≤ at
+  pub under : at < k + m
+  pub fails : t at ≡ false
+  pub earlier : (i : ℕ) → k ≤ i → i < at → t i ≡ true
+
+pub all-failing : (t : ℕ → Bool) (k m : ℕ) → allFrom t k m ≡ false → Failing t k m
+unfolding allFrom
+all-failing t k zero h = absurd (true≢false h)
+all-failing t k (suc m) h = go (λ e. all-failing t (k + 1) m (sym (all-first t k m e) ∙ h)) (t k) refl
+  where
+    go : (t k ≡ true → Failing t (k + 1) m) → (b : Bool) → t k ≡ b → Failing t k (suc m)
+    go later false e =
+        record { at = k; from = omega arith; under = omega arith; fails = e; earlier = λ i l u. absurd (omega arith) }
+    go later true e =
+        let x = later e in
+        record {
+          at = x .at;
+          from = omega (arith, x .from);
+          under = omega (arith, x .under);
+          fails = x .fails;
+          earlier = λ i l u. first i l u (eqb k i) refl;
+        }
+      where
+        first : (i : ℕ) → k ≤ i → i < later e .at → (b : Bool) → eqb k i ≡ b → t i ≡ true
+        first i l u true f = subst (λ (x : ℕ). t x ≡ true) (eqb-true k i f) e
+        first i l u false f = later e .earlier i (omega (arith, eqb-false k i f)) u
+
+-- and the other way round: a range with such a number
+pub all-fails-at : (t : ℕ → Bool) (k m i : ℕ) → k ≤ i → i < k + m → t i ≡ false → allFrom t k m ≡ false
+all-fails-at t k m i l u h = go (allFrom t k m) refl
+  where
+    go : (b : Bool) → allFrom t k m ≡ b → allFrom t k m ≡ false
+    go true e = absurd (true≢false (sym (all-at t k m i e l u) ∙ h))
+    go false e = e
 
 -- tests that agree on the range agree on all of it
 pub all-same : (t u : ℕ → Bool) (k m : ℕ) → ((i : ℕ) → k ≤ i → i < k + m → t i ≡ u i) → allFrom t k m ≡ allFrom u k m

@@ -13,3 +13,4 @@ pub mod Bias
 pub mod RunningSum
 pub mod AnyOrder
 pub mod Nearest
+pub mod BadTerm

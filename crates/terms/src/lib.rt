@@ -1,17 +1,34 @@
-// A polynomial: 8 bytes a term, a signed 32-bit coefficient and four exponent bytes.
+// A polynomial's terms, 8 bytes each: a signed 32-bit coefficient and four exponent bytes. One pass tests limits and order together: it reads each
+// byte once and carries the least weight that the next term may have.
 
 use bits::read;
 ghost use mathlib.Core.Path.{_≡_};
-ghost use Prim.Native.Nat.{_+_, _*_, _-_, _≤_, _<_};
+ghost use mathlib.Core.Bool.{_||_};
+ghost use Prim.Native.Nat.{_+_, _*_, _≤_, _<_};
+ghost use lib.Dec.{ltb, eqb};
 ghost use lib.ListN.{length};
-ghost use Rattle.paper.specs.Job.{exponentOf, exponentsZero, degree, termOk, exponentWeight, rises, polynomialOk};
+ghost use Rattle.paper.specs.Job.{exponentOf, polynomialOk};
 ghost use Rattle.bits.specs.Read.{Reads};
+ghost use Rattle.terms.specs.Carried.{coefficientOk, exponentsOk, CarriedTo, carriedOn};
 
 // The size of a coefficient.
 const COEFFICIENT: u64 = 1048576;
 
 // The sum of a term's exponents.
 const DEGREE: u64 = 4;
+
+// The coefficient of term i is not 0 and not too large. Its 32 bits are looked at as an unsigned number: moved up by the limit, and round from 2^32
+// to 0, the coefficients that are not too large are the numbers from 0 to twice the limit.
+fn coefficient_ok(b: &[u8], i: usize) -> bool
+    requires { ⌜ 8 * i + 8 ≤ length (now b) ⌝ }
+    ensures { λ r. ⌜ r ≡ coefficientOk (now (b .entry)) i ⌝ }
+{
+    let u = read::double_word(b, 8 * i);
+    if u == 0 {
+        return false;
+    }
+    (u + COEFFICIENT) % 4294967296 <= 2 * COEFFICIENT
+}
 
 // The exponent of axis a in term i.
 fn exponent(b: &[u8], i: usize, a: usize) -> u64
@@ -21,80 +38,77 @@ fn exponent(b: &[u8], i: usize, a: usize) -> u64
     read::byte(b, 8 * i + 4 + a)
 }
 
-// The exponents above axis n are 0.
-fn upper_exponents_zero(n: usize, b: &[u8], i: usize) -> bool
-    requires { ⌜ (8 * i + 8 ≤ length (now b)) × (n ≤ 4) ⌝ }
-    ensures { λ r. ⌜ r ≡ exponentsZero (now (b .entry)) i n (4 - n) ⌝ }
+// Dimension n has axis a, or its exponent e is 0.
+fn exponent_ok(n: usize, a: usize, e: u64) -> bool
+    ensures { λ r. ⌜ r ≡ (ltb a n || eqb e 0) ⌝ }
 {
-    let mut a = n;
-    while a < 4 {
-        if exponent(b, i, a) != 0 {
-            return false;
-        }
-        a += 1;
-    }
-    true
-}
-
-// The sum of a term's four exponents.
-fn degree(b: &[u8], i: usize) -> u64
-    requires { ⌜ 8 * i + 8 ≤ length (now b) ⌝ }
-    ensures { λ r. ⌜ r ≡ degree (now (b .entry)) i ⌝ }
-{
-    exponent(b, i, 0) + exponent(b, i, 1) + exponent(b, i, 2) + exponent(b, i, 3)
-}
-
-// A coefficient that is not 0 and not too large, no exponent above axis n, and a sum of exponents within the limit.
-fn term_ok(n: usize, b: &[u8], i: usize) -> bool
-    requires { ⌜ (8 * i + 8 ≤ length (now b)) × (n ≤ 4) ⌝ }
-    ensures { λ r. ⌜ r ≡ termOk n (now (b .entry)) i ⌝ }
-{
-    let m = read::size(read::signed_double_word(b, 8 * i));
-    if m == 0 {
-        return false;
-    }
-    if COEFFICIENT < m {
-        return false;
-    }
-    if !upper_exponents_zero(n, b, i) {
-        return false;
-    }
-    degree(b, i) <= DEGREE
-}
-
-// A term's exponents as the digits of a number, axis 1 weighing most.
-fn weight(b: &[u8], i: usize) -> u64
-    requires { ⌜ 8 * i + 8 ≤ length (now b) ⌝ }
-    ensures { λ r. ⌜ r ≡ exponentWeight (now (b .entry)) i ⌝ }
-{
-    exponent(b, i, 0) * 16777216
-        + exponent(b, i, 1) * 65536
-        + exponent(b, i, 2) * 256
-        + exponent(b, i, 3)
-}
-
-// Term i rises strictly over the one before.
-fn rises(b: &[u8], i: usize) -> bool
-    requires { ⌜ 8 * i + 8 ≤ length (now b) ⌝ }
-    ensures { λ r. ⌜ r ≡ rises (now (b .entry)) i ⌝ }
-{
-    if i == 0 {
+    if a < n {
         return true;
     }
-    weight(b, i - 1) < weight(b, i)
+    e == 0
 }
 
+// No exponent above axis n, and a sum within the limit.
+fn exponents_ok(n: usize, x: u64, y: u64, z: u64, w: u64) -> bool
+    requires { ⌜ (x < 256) × (y < 256) × (z < 256) × (w < 256) ⌝ }
+    ensures { λ r. ⌜ r ≡ exponentsOk n x y z w ⌝ }
+{
+    if !exponent_ok(n, 0, x) {
+        return false;
+    }
+    if !exponent_ok(n, 1, y) {
+        return false;
+    }
+    if !exponent_ok(n, 2, z) {
+        return false;
+    }
+    if !exponent_ok(n, 3, w) {
+        return false;
+    }
+    x + y + z + w <= DEGREE
+}
+
+// The least weight of a term that rises over one of weight w; 0 if w does not reach its own least weight.
+fn least_above(w: u64, least: u64) -> u64
+    requires { ⌜ w < 4294967296 ⌝ }
+    ensures { λ r. ⌜ (least ≤ w → r ≡ w + 1) × (w < least → r ≡ 0) ⌝ }
+{
+    if w < least {
+        return 0;
+    }
+    w + 1
+}
+
+// What term i leaves for the next one: the least weight that it may have, or 0 if term i breaks a limit or does not rise over the one before it. A
+// weight has the exponents as digits, axis 1 weighing most; within the limits each is under 8.
+fn least_after(n: usize, b: &[u8], i: usize, least: u64) -> u64
+    requires { ⌜ (8 * i + 8 ≤ length (now b)) × (CarriedTo n (now b) i least) ⌝ }
+    ensures { λ r. ⌜ r ≡ carriedOn n (now (b .entry)) i ⌝ }
+{
+    if !coefficient_ok(b, i) {
+        return 0;
+    }
+    let x = exponent(b, i, 0);
+    let y = exponent(b, i, 1);
+    let z = exponent(b, i, 2);
+    let w = exponent(b, i, 3);
+    if !exponents_ok(n, x, y, z, w) {
+        return 0;
+    }
+    least_above(((x * 8 + y) * 8 + z) * 8 + w, least)
+}
+
+// Every term is within the limits and rises over the one before it.
 pub fn polynomial_ok(n: usize, b: &[u8]) -> bool
     requires { ⌜ n ≤ 4 ⌝ }
     ensures { λ r. ⌜ r ≡ polynomialOk n (now (b .entry)) ⌝ }
 {
     let terms = b.len() / 8;
+    let mut least = 0u64;
     let mut i = 0;
     while i < terms {
-        if !term_ok(n, b, i) {
-            return false;
-        }
-        if !rises(b, i) {
+        least = least_after(n, b, i, least);
+        if least == 0 {
             return false;
         }
         i += 1;

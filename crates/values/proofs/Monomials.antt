@@ -43,7 +43,7 @@ pub record Exponents (b : List ℕ) (i : ℕ) : Type 0 where
 pub exponents : {n : ℕ} {b : List ℕ} (p : Polynomial n b) (i : ℕ) → i < termCount b → Exponents b i
 unfolding degree
 exponents {n} {b} p i l =
-    let t = polynomial-term n b (p .terms) i (p .axes .high) l in
+    let t = polynomial-term n b (p .terms) i l in
     record {
       sum = t .sum;
       each = λ a h. le-trans (exponent-degree b i a h) (t .sum);

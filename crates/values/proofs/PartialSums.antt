@@ -29,7 +29,7 @@ IsSumOfLast n b v k r = Is (partialSumLimit n) (sumOfLast b v k) r
 
 module _ {n : ℕ} {b : List ℕ} (p : Polynomial n b) {v : List ℤ} (x : BoxVertex v) where
   size-of-last : (k : ℕ) → k ≤ termCount b → Size (partialSumLimit n) (sumOfLast b v k)
-  size-of-last k l = last-size n b v (p .axes .high) (p .terms) (p .count) (x .near) k (x .short) l
+  size-of-last k l = last-size n b v (p .terms) (p .count) (x .near) k (x .short) l
 
   -- before the first turn
   pub last-none : (i : ℕ) → i ≡ termCount b → IsSumOfLast n b v (termCount b - i) (pos 0)
