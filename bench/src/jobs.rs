@@ -1,10 +1,12 @@
-//! The jobs that are timed, by name.
+//! The jobs that are timed: those that are traced, by name, and those that are opened in a row.
 
 use reference::build::{exponents, gathered, place, term, Parts};
 use reference::crossed::Term;
 use reference::curve::vertices_of_box;
+use reference::generate::{vertex_in, Random};
 use reference::grid::{chains, Facet, Place};
 use reference::job::Job;
+use reference::limits::{Limits, LARGEST_COEFFICIENT, LARGEST_COORDINATE};
 use reference::operations::facet_is_crossed;
 
 /// The job with a crossed start: the first crossed facet, the last coordinate going up from 0.
@@ -46,7 +48,7 @@ fn job(reach: i64, polynomials: Vec<Vec<Term>>) -> Parts {
     crossed_start(job_from(reach, polynomials, place(&lowest, &masks, 0)))
 }
 
-/// Name and bytes of each job.
+/// Name and bytes of each job that is traced.
 pub fn jobs() -> Vec<(&'static str, Vec<u8>)> {
     let circle = gathered(&[term(1, &[2]), term(1, &[0, 2]), term(-62_500, &[])]);
     let sphere = [term(1, &[2]), term(1, &[0, 2]), term(1, &[0, 0, 2]), term(-8_100, &[])];
@@ -87,4 +89,37 @@ pub fn jobs() -> Vec<(&'static str, Vec<u8>)> {
         ),
     ];
     all.into_iter().map(|(name, parts)| (name, parts.bytes())).collect()
+}
+
+/// So many of the terms that a body may hold, with any coefficients.
+fn some_terms(r: &mut Random, n: usize, count: usize) -> Vec<Term> {
+    let mut all = exponents(n).to_vec();
+    r.shuffle(&mut all);
+    all.truncate(count);
+    all.sort();
+    let with_coefficient = |exponents| {
+        let coefficient = r.between(1, LARGEST_COEFFICIENT) * r.pick(&[1, -1]);
+        Term { coefficient, exponents }
+    };
+    all.into_iter().map(with_coefficient).collect()
+}
+
+/// A job that opens, with so many terms a body; any box, any start in it, any bias.
+fn some_job(r: &mut Random, n: usize, terms: usize) -> Parts {
+    let mut ends = Vec::new();
+    for _ in 0..n {
+        let low = r.between(-LARGEST_COORDINATE, LARGEST_COORDINATE - 1);
+        ends.push((low, r.between(low + 1, LARGEST_COORDINATE)));
+    }
+    let polynomials = (1..n).map(|_| some_terms(r, n, terms)).collect();
+    let facet = Facet { n, lowest: vertex_in(r, &ends), masks: r.pick(chains(n)) };
+    let start = Place { facet, side: r.below(2) as u8 };
+    Parts { n, bias: r.byte(), ends, polynomials, start }
+}
+
+/// So many jobs of dimension n to open, with so many terms a body: the same in every run.
+pub fn to_open(n: usize, terms: usize, count: usize) -> Vec<Vec<u8>> {
+    assert!((1..=Limits::of(n).terms).contains(&terms), "no body has {terms} terms");
+    let mut r = Random::new(32);
+    (0..count).map(|_| some_job(&mut r, n, terms).bytes()).collect()
 }

@@ -1,17 +1,21 @@
-//! Two tracers in Rust for comparing times, and the jobs that are timed.
+//! Two tracers and an opener in Rust for comparing times, and the jobs that are timed.
 
 pub mod careful;
 pub mod jobs;
+pub mod open;
 pub mod plain;
 
 #[cfg(test)]
 mod tests {
-    use reference::build::{gathered, place, term, Parts};
-    use reference::generate::{valid, Random};
+    use reference::build::{assemble, case_a, case_c, exponents, gathered, place, term, Parts};
+    use reference::generate::{any_job, valid, JobTally, Random};
+    use reference::limits::{Limits, DIMENSIONS};
     use reference::operations::Verdict;
     use reference::product::{Product, Reference};
-    use reference::tally::Tally;
+    use reference::tally::{Answer, Tally};
 
+    use crate::jobs::to_open;
+    use crate::open::{open, Opened};
     use crate::{careful, plain};
 
     /// Compares answers and buffers of that length with the reference; gives the answer.
@@ -59,6 +63,77 @@ mod tests {
                 start: place(&[-11, 0], &[1], 0),
             };
             assert_eq!(compared(&parts, 600), Ok((Verdict::Loop, count)), "bias {bias}");
+        }
+    }
+
+    /// Compares the opener's answer with the reference; gives what it is.
+    fn opened(job: &[u8]) -> Answer {
+        let wanted = Reference.open(job).map(|(n, counts)| {
+            let mut terms = [0; 3];
+            terms[..counts.len()].copy_from_slice(&counts);
+            Opened { n, terms }
+        });
+        assert_eq!(open(job), wanted, "{job:?}");
+        wanted.map(|_| "opens")
+    }
+
+    #[test]
+    fn open_is_the_reference() {
+        let mut r = Random::new(33);
+        let (mut made, mut answers) = (JobTally::default(), Tally::default());
+        for _ in 0..300_000 {
+            let job = any_job(&mut r);
+            answers.count(job.n(), opened(&job.bytes));
+            made.count(&job);
+        }
+        made.assert_all();
+        answers.assert_met(&(1..=8).map(Err).chain([Ok("opens")]).collect::<Vec<_>>());
+    }
+
+    /// Every beginning of a job that opens, and every byte of it at each of its values.
+    #[test]
+    fn open_at_every_cut_and_every_byte() {
+        for parts in [case_a(), case_c(3), case_c(4)] {
+            let job = parts.bytes();
+            for at in 0..job.len() {
+                _ = opened(&job[..at]);
+                let mut changed = job.clone();
+                for byte in 0..=255 {
+                    changed[at] = byte;
+                    _ = opened(&changed);
+                }
+            }
+        }
+    }
+
+    /// Every count of terms up to one more than any dimension has, in each polynomial.
+    #[test]
+    fn open_at_every_count_of_terms() {
+        for n in DIMENSIONS {
+            for (k, count) in (1..n).flat_map(|k| (0..=71).map(move |count| (k, count))) {
+                let mut bodies = case_c(n).bodies();
+                let terms = exponents(n).iter().cycle().take(count);
+                bodies[k] = terms.flat_map(|e| [[1, 0, 0, 0], *e].concat()).collect();
+                let opens = (1..=Limits::of(n).terms).contains(&count);
+                let wanted = if opens { Ok("opens") } else { Err(5) };
+                assert_eq!(opened(&assemble(n, 0, &bodies)), wanted, "{count} terms");
+            }
+        }
+    }
+
+    /// The jobs that are timed open, with the terms asked for, and no two are the same.
+    #[test]
+    fn jobs_to_open_open() {
+        for n in DIMENSIONS {
+            for terms in [1, Limits::of(n).terms - 1, Limits::of(n).terms] {
+                let mut jobs = to_open(n, terms, 300);
+                for job in &jobs {
+                    assert_eq!(Reference.open(job), Ok((n, vec![terms; n - 1])));
+                }
+                jobs.sort();
+                jobs.dedup();
+                assert_eq!(jobs.len(), 300);
+            }
         }
     }
 }

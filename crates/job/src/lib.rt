@@ -18,7 +18,7 @@ ghost use Rattle.job.specs.PartOffset.{partOffset};
 
 // Every polynomial's terms are right and rise.
 fn polynomials_ok(n: usize, job: &[u8]) -> bool
-    requires { ⌜ (n ≤ 4) × (contentsOk n (now job) ≡ true) ⌝ }
+    requires { ⌜ contentsOk n (now job) ≡ true ⌝ }
     ensures { λ r. ⌜ r ≡ allFrom (λ k. polynomialOk n (body (now (job .entry)) k)) 1 (n - 1) ⌝ }
 {
     let mut k = 1;

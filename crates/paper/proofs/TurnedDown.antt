@@ -205,7 +205,7 @@ module _ (n : ℕ) (b : List ℕ) where
           let more : 0 < i = omega (arith, eqb-false i 0 f) in
           let before = term-range n b (i - 1) (and-left (termOk n b (i - 1)) (rises b (i - 1)) (first .earlier (i - 1) (omega arith) (omega arith))) in
           let weights : exponentWeight b i ≤ exponentWeight b (i - 1) = ltb-false _ _ (rw f at (falls e)) in
-          stays (termOf b (i - 1)) (termOf b i) more (term-there b (i - 1) (omega (arith, there))) (term-there b i there)
+          stays (termOf b (i - 1)) (termOf b i) (omega (arith, more)) (term-there b (i - 1) (omega (arith, there))) (term-there b i there)
           (λ r. omega (arith, weights, weight-rises b (i - 1) i (exponent-small before) (exponent-small (term-range n b i e)) r))
 
   no-bad-term : polynomialOk n b ≡ true → (i : ℕ) → BadTerm n (termsOf b) i → ⊥
@@ -217,7 +217,7 @@ module _ (n : ℕ) (b : List ℕ) where
       let here = term-known b i t e in
       x (subst (λ y. RisesOver y t) (before .1) (subst (RisesOver (termOf b (i - 1))) (here .1)
       (rises-by-weight b (i - 1) i (exponent-small (polynomial-term n b h (i - 1) (before .0))) (exponent-small (polynomial-term n b h i (here .0)))
-      (terms-rise n b h i p (here .0)))))
+      (terms-rise n b h i (omega (arith, p)) (here .0)))))
 
   -- a body is turned down exactly if some term breaks a limit or does not rise over the one before it
   pub turned-down : (polynomialOk n b ≡ false) ↔ ((i : ℕ) × BadTerm n (termsOf b) i)

@@ -10,17 +10,18 @@ use borrow.Author.Tests.{leb-true, leb-false, le-leb, ne-eqb}
 use Rattle.exact.proofs.AndTests.{and-left}
 use Rattle.paper.specs.Job.{termOk, rises}
 use Rattle.terms.specs.Carried.{shortWeight, leastWeight, CarriedTo, carriedOn}
+use Rattle.terms.proofs.SameTests.{leb-same}
 use Rattle.terms.proofs.ShortWeight.{order-same}
 
 -- a term within the limits rises over the one before it exactly if it reaches the least weight that was carried to it
 rises-least : (n : ℕ) (b : List ℕ) (i : ℕ) {least : ℕ} → CarriedTo n b i least → termOk n b i ≡ true → rises b i ≡ leb least (shortWeight b i)
 unfolding rises leastWeight
-rises-least n b zero c h = rw (c .is) (sym (le-leb 0 (shortWeight b 0) (omega arith)))
-rises-least n b (suc i) c h =
+rises-least n b zero {least} c h = sym (le-leb least (shortWeight b 0) (omega (arith, c .is)))
+rises-least n b (suc i) {least} c h =
     let last : suc i - 1 ≡ i = omega arith in
-    let more : shortWeight b i + 1 ≡ suc (shortWeight b i) = omega arith in
-    rw (c .is, more, ne-eqb (suc i) 0 (λ z. omega arith), last)
-    (order-same n b i (suc i) (subst (λ (k : ℕ). termOk n b k ≡ true) last (c .before (omega arith))) h)
+    rw (ne-eqb (suc i) 0 (λ z. omega arith), last)
+    (order-same n b i (suc i) (subst (λ (k : ℕ). termOk n b k ≡ true) last (c .before (omega arith))) h
+    ∙ leb-same (suc (shortWeight b i)) (shortWeight b (suc i)) least (shortWeight b (suc i)) (λ k. omega (arith, c .is)) (λ k. omega (arith, c .is)))
 
 module _ (n : ℕ) (b : List ℕ) (i : ℕ) where
   -- ---- at the end of a term's tests
@@ -31,10 +32,10 @@ module _ (n : ℕ) (b : List ℕ) (i : ℕ) where
 
   -- the last test, of the order
   pub carried-last :
-      {least weight r : ℕ} → CarriedTo n b i least → termOk n b i ≡ true → weight ≡ shortWeight b i → (least ≤ weight → r ≡ weight + 1)
-      → (weight < least → r ≡ 0) → r ≡ carriedOn n b i
+      {least weight r : ℕ} → CarriedTo n b i least → termOk n b i ≡ true → (least ≤ weight → r ≡ weight + 1) → (weight < least → r ≡ 0)
+      → weight ≡ shortWeight b i → r ≡ carriedOn n b i
   unfolding carriedOn leastWeight
-  carried-last {least} {weight} {r} c h f up down = go (leb least weight) refl
+  carried-last {least} {weight} {r} c h up down f = go (leb least weight) refl
     where
       test : (termOk n b i && rises b i) ≡ leb least weight
       test = rw (h, rises-least n b i c h, f) refl

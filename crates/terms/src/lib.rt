@@ -100,7 +100,6 @@ fn least_after(n: usize, b: &[u8], i: usize, least: u64) -> u64
 
 // Every term is within the limits and rises over the one before it.
 pub fn polynomial_ok(n: usize, b: &[u8]) -> bool
-    requires { ⌜ n ≤ 4 ⌝ }
     ensures { λ r. ⌜ r ≡ polynomialOk n (now (b .entry)) ⌝ }
 {
     let terms = b.len() / 8;

@@ -69,7 +69,7 @@ returns-2 : tie.Need-returns-2
 returns-2 c = refuse-box _ _ (contents-right (c .before .before .before)) (test-failed (box-test (c .before)) (c .if2 .taken))
 
 polynomials-ok-requires : tie.Need-polynomials-ok-requires
-polynomials-ok-requires c κs = (c .before .before .before .before .before .before .pre .high, contents-right (c .before .before .before))
+polynomials-ok-requires c κs = contents-right (c .before .before .before)
 
 returns-3 : tie.Need-returns-3
 returns-3 c =

@@ -2,6 +2,7 @@
 use mathlib.Core.Path.{_≡_, refl, ap, _∙_}
 use Prim.Native.Nat.{_-_}
 use native.Mathlib.Omega.{arith}
+use borrow.Author.Needs.{needs}
 use Rattle.paper.specs.Job.{allFrom, body, polynomialOk}
 use Rattle.paper.proofs.RangeSteps.{test-failed, test-passed, all-next, all-stops, all-ends}
 use Rattle.contents.proofs.EntrySteps.{contents-part}
@@ -24,10 +25,10 @@ loop-holds : tie.Need-loop-holds Inv-loop μ-loop
 loop-holds c = refl
 
 part-of-requires : tie.Need-part-of-requires Inv-loop μ-loop
-part-of-requires c κs = contents-part _ _ _ (c .before .before .before .pre .1) (omega arith)
+part-of-requires c κs = contents-part _ _ _ (c .before .before .before .pre) (omega arith)
 
 polynomial-ok-requires : tie.Need-polynomial-ok-requires Inv-loop μ-loop
-polynomial-ok-requires c κs = omega arith
+polynomial-ok-requires c κs = search needs
 
 returns : tie.Need-returns Inv-loop μ-loop
 returns c =

@@ -1,6 +1,7 @@
 -- `terms::least_after` meets its contract: the coefficient, the exponents, then the order.
 use mathlib.Core.Path.{_≡_}
 use mathlib.Core.Bool.{true}
+use native.Mathlib.Omega.{arith}
 use borrow.Author.Needs.{needs}
 use Rattle.paper.proofs.RangeSteps.{test-failed, test-passed}
 use Rattle.terms.specs.Carried.{coefficientOk}
@@ -79,8 +80,8 @@ returns-3 : tie.Need-returns-3
 returns-3 c =
     let seen = c .before .before .before in
     carried-last _ _ _ (seen .before .before .before .before .before .before .before .pre .1)
-    (exponents-pass _ (read seen) (right seen) (c .before .before .exponents-ok .ensures) (c .before .if2 .left)) (weight-read (read seen))
-    (c .least-above .ensures .0) (c .least-above .ensures .1)
+    (exponents-pass _ (read seen) (right seen) (c .before .before .exponents-ok .ensures) (c .before .if2 .left))
+    (c .least-above .ensures .0) (c .least-above .ensures .1) (omega (arith, weight-read (read seen)))
 
 pub least-after-spec : {M : Type 1} → statement M
 least-after-spec =

@@ -32,7 +32,7 @@ least-after-requires c κs = (omega arith, c .before .loop .inv .1)
 
 returns : tie.Need-returns Inv-loop μ-loop
 returns c =
-    all-stops _ _ _ (c .before .before .before .loop .inv .0) (c .before .before .loop-test .taken)
+    all-stops _ _ _ (c .before .before .before .loop .inv .0) (omega (arith, c .before .before .loop-test .taken))
     (carried-stops _ _ _ (sym (c .before .least-after .ensures) ∙ c .if1 .taken))
 
 add-i : tie.Need-add-i Inv-loop μ-loop
@@ -49,12 +49,12 @@ more c h = c .if1 .left (c .before .least-after .ensures ∙ h)
 
 loop-again : tie.Need-loop-again Inv-loop μ-loop
 loop-again c = (
-  all-next _ _ _ (c .before .before .before .loop .inv .0) (c .before .before .loop-test .taken) (carried-passes _ _ _ (more c)),
+  all-next _ _ _ (c .before .before .before .loop .inv .0) (omega (arith, c .before .before .loop-test .taken)) (carried-passes _ _ _ (more c)),
   subst (CarriedTo _ _ _) (sym (c .before .least-after .ensures)) (carried-next _ _ _ (more c)),
 )
 
 returns-2 : tie.Need-returns-2 Inv-loop μ-loop
-returns-2 c = all-ends _ _ _ (c .before .loop .inv .0) (c .loop-test .left)
+returns-2 c = all-ends _ _ _ (c .before .loop .inv .0) (omega (arith, c .loop-test .left))
 
 pub polynomial-ok-spec : {M : Type 1} → statement M
 polynomial-ok-spec =

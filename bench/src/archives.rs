@@ -1,0 +1,69 @@
+//! What the bench calls by the C interface itself: Open of the proved library, and Open and Trace
+//! of an earlier state of it, if one is linked (`build.rs`).
+
+#[cfg(before)]
+use reference::operations::Verdict;
+use tracer::open::Opened;
+
+#[repr(C)]
+pub struct OpenAnswer {
+    refusal: u64,
+    n: u64,
+    terms: [u64; 3],
+}
+
+impl OpenAnswer {
+    /// The answer as the opener in Rust gives it.
+    pub fn opened(&self) -> Result<Opened, u8> {
+        match self.refusal {
+            0 => Ok(Opened { n: self.n as usize, terms: self.terms.map(|count| count as usize) }),
+            number => Err(number as u8),
+        }
+    }
+}
+
+extern "C" {
+    fn gethwapiko_open(job: *const u8, job_length: usize) -> OpenAnswer;
+}
+
+/// Open of the proved library.
+pub fn open(job: &[u8]) -> OpenAnswer {
+    unsafe { gethwapiko_open(job.as_ptr(), job.len()) }
+}
+
+#[cfg(before)]
+#[repr(C)]
+struct TraceAnswer {
+    refusal: u64,
+    verdict: u64,
+    count: u64,
+}
+
+#[cfg(before)]
+extern "C" {
+    fn before_gethwapiko_open(job: *const u8, job_length: usize) -> OpenAnswer;
+    fn before_gethwapiko_trace(
+        job: *const u8,
+        job_length: usize,
+        buffer: *mut u8,
+        buffer_length: usize,
+    ) -> TraceAnswer;
+}
+
+/// Open of the earlier state.
+#[cfg(before)]
+pub fn open_before(job: &[u8]) -> OpenAnswer {
+    unsafe { before_gethwapiko_open(job.as_ptr(), job.len()) }
+}
+
+/// Trace of the earlier state.
+#[cfg(before)]
+pub fn trace_before(job: &[u8], buffer: &mut [u8]) -> Result<(Verdict, usize), u8> {
+    let (room, length) = (buffer.as_mut_ptr(), buffer.len());
+    let answer = unsafe { before_gethwapiko_trace(job.as_ptr(), job.len(), room, length) };
+    if answer.refusal != 0 {
+        return Err(answer.refusal as u8);
+    }
+    let verdicts = [Verdict::Loop, Verdict::Edge, Verdict::Limit, Verdict::Full];
+    Ok((verdicts[answer.verdict as usize], answer.count as usize))
+}
