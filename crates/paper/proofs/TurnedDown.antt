@@ -3,7 +3,7 @@
 use mathlib.Core.Path.{_≡_, refl, sym, ap, subst, _∙_}
 use mathlib.Core.Logic.{_≢_, _↔_}
 use mathlib.Core.Bool.{Bool, true, false, not, _&&_, true≢false}
-use mathlib.Core.List.{List, [], _∷_, map}
+use mathlib.Core.List.{List, map}
 use mathlib.Core.Option.{none, some, Option·some-injective, Option·none-ne-some}
 use Prim.Native.Nat.{ℕ, suc, zero, _+_, _-_, _≤_, _<_}
 use native.Mathlib.Omega.{arith}
@@ -11,15 +11,14 @@ use lib.Dec.{leb, ltb, eqb, lit<}
 use lib.IntN.{natAbs}
 use lib.ListN.{length, getElem?}
 use borrow.Author.Tests.{ltb-true, ltb-false, leb-false, eqb-true, eqb-false, not-false, le-ltb, eq-eqb}
-use Rattle.exact.specs.Int.{0ℤ}
 use Rattle.exact.specs.Crossed.{countFrom}
 use Rattle.exact.proofs.AndTests.{and-left}
 use Rattle.exact.proofs.CountFrom.{getD-map-countFrom, getD-past-countFrom}
 use Rattle.exact.proofs.SizeLaws.{natAbs-zero}
 use Rattle.paper.specs.Bytes.{byte}
-use Rattle.paper.specs.Limits.{dimensionOk, coefficientLimit, degreeLimit}
-use Rattle.paper.specs.Job.{dimension, contentsOk, body, boxOk, allFrom, termCount, coefficientOf, exponentOf, exponentsZero, degree, termOk, exponentWeight, rises, polynomialOk, refuseIf, openRefusal}
-use Rattle.paper.specs.RunningSum.{Term, exponentSum, termOf, termsOf}
+use Rattle.paper.specs.Limits.{coefficientLimit, degreeLimit}
+use Rattle.paper.specs.Job.{dimension, body, allFrom, termCount, coefficientOf, exponentOf, exponentsZero, degree, termOk, exponentWeight, rises, polynomialOk, refuseIf, openRefusal}
+use Rattle.paper.specs.RunningSum.{Term, termOf, termsOf}
 use Rattle.paper.specs.BadTerm.{exponentAt, BreaksLimit, zero-coefficient, large-coefficient, upper-exponent, large-sum, RisesOver, BadTerm, breaks, stays, BadJobTerm}
 use Rattle.paper.proofs.Tests.{Failing, all-failing, all-fails-at}
 use Rattle.paper.proofs.Refusals.{refuse-here, refuse-later, answered-later}
