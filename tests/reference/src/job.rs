@@ -72,7 +72,7 @@ fn read_box(body: &[u8]) -> Option<Vec<(i64, i64)>> {
 }
 
 /// The terms; none if one is beyond its limits or does not rise over the one before.
-fn read_polynomial(n: usize, body: &[u8]) -> Option<Vec<Term>> {
+pub fn read_polynomial(n: usize, body: &[u8]) -> Option<Vec<Term>> {
     let mut terms: Vec<Term> = Vec::new();
     for bytes in body.chunks_exact(8) {
         let coefficient = signed_32(bytes, 0);

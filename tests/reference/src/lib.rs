@@ -7,6 +7,7 @@
 //! table of `limits`. All sums are taken in 128 bits, determinants by Laplace's expansion,
 //! neighbours and sides by searching the simplices around a facet for those that have it.
 
+pub mod bad_terms;
 pub mod build;
 pub mod cartesian;
 pub mod crossed;
@@ -22,3 +23,4 @@ pub mod product;
 pub mod roundings_met;
 pub mod sums_met;
 pub mod tally;
+pub mod term_checks;

@@ -78,15 +78,18 @@ impl<T: Ord + Copy + Debug> Tally<T> {
         }
     }
 
+    /// Fails unless each of these was met at least so often in a dimension.
+    pub fn assert_often_in(&self, n: usize, least: u64, wanted: &[T]) {
+        let counts = self.of(n);
+        for case in wanted {
+            let count = counts.get(case).copied().unwrap_or(0);
+            assert!(count >= least, "{case:?} was met {count} times in dimension {n}");
+        }
+    }
+
     /// Fails unless each of these was met at least so often in each dimension.
     pub fn assert_often(&self, least: u64, wanted: &[T]) {
-        for n in DIMENSIONS {
-            let counts = self.of(n);
-            for case in wanted {
-                let count = counts.get(case).copied().unwrap_or(0);
-                assert!(count >= least, "{case:?} was met {count} times in dimension {n}");
-            }
-        }
+        DIMENSIONS.into_iter().for_each(|n| self.assert_often_in(n, least, wanted));
     }
 
     /// Fails unless as many were met in the largest dimension as in each other.

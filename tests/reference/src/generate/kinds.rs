@@ -140,7 +140,7 @@ pub fn scale(n: usize) -> &'static Scale {
 }
 
 /// The dimension of a job.
-fn any_dimension(r: &mut Random) -> usize {
+pub fn any_dimension(r: &mut Random) -> usize {
     r.weighted(&SCALES.each_ref().map(|row| (row.n, row.weight)))
 }
 
