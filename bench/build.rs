@@ -24,8 +24,8 @@ fn link(archive: &Path) {
     println!("cargo:rustc-link-arg-bins={}", archive.display());
 }
 
-/// Links copies of both. In the earlier one each name that it defines begins with `before_`; those
-/// that it takes from outside, like memcpy, stay. In both every function begins at a multiple of
+/// Links copies of both. In the earlier one each name that it defines for others begins with
+/// `before_`; those that it takes from outside, like memcpy, stay. In both every function begins at a multiple of
 /// 64, since the same code at another place in a cache line takes a few in a hundred more or less
 /// time.
 fn link_both(archive: &Path, before: &Path) {

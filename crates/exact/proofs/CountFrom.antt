@@ -3,7 +3,8 @@ use Prim.Native.Nat.{ℕ, suc, zero, _+_, _-_, _≤_, _<_}
 use native.Mathlib.Omega.{arith}
 use mathlib.Core.Path.{_≡_, refl, sym, ap, ap₂, _∙_}
 use mathlib.Core.List.{[], _∷_, map}
-use lib.ListN.{length, getD}
+use mathlib.Core.Option.{none, some}
+use lib.ListN.{length, getD, getElem?}
 use Rattle.exact.specs.Crossed.{countFrom, remove}
 use Rattle.exact.specs.Minors.{skip}
 
@@ -42,6 +43,20 @@ module _ {A : Type 0} where
   getD-past-countFrom f d k zero i h = refl
   getD-past-countFrom f d k (suc m) zero h = absurd (omega arith)
   getD-past-countFrom f d k (suc m) (suc i) h = getD-past-countFrom f d (suc k) m i (omega arith)
+
+  -- the same of the element itself
+  pub getElem-map-countFrom : (f : ℕ → A) (k m i : ℕ) → i < m → getElem? (map f (countFrom k m)) i ≡ some (f (k + i))
+  unfolding countFrom
+  getElem-map-countFrom f k zero i h = absurd (omega arith)
+  getElem-map-countFrom f k (suc m) zero h = let same : k ≡ k + 0 = omega arith in ap (λ (x : ℕ). some (f x)) same
+  getElem-map-countFrom f k (suc m) (suc i) h =
+      let same : suc k + i ≡ k + suc i = omega arith in getElem-map-countFrom f (suc k) m i (omega arith) ∙ ap (λ (x : ℕ). some (f x)) same
+
+  pub getElem-past-countFrom : (f : ℕ → A) (k m i : ℕ) → m ≤ i → getElem? (map f (countFrom k m)) i ≡ none
+  unfolding countFrom
+  getElem-past-countFrom f k zero i h = refl
+  getElem-past-countFrom f k (suc m) zero h = absurd (omega arith)
+  getElem-past-countFrom f k (suc m) (suc i) h = getElem-past-countFrom f (suc k) m i (omega arith)
 
   pub map-countFrom-ext :
       (f g : ℕ → A) (k m : ℕ) → ((i : ℕ) → k ≤ i → i < k + m → f i ≡ g i) → map f (countFrom k m) ≡ map g (countFrom k m)

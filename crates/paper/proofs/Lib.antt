@@ -5,6 +5,7 @@ pub mod Cases4
 pub mod CasesBias
 pub mod CasesSum
 pub mod CasesNearest
+pub mod CasesTerms
 pub mod Tests
 pub mod RangeSteps
 pub mod Refusals

@@ -4,6 +4,7 @@ use mathlib.Core.Bool.{Bool, true, false, not, _&&_, false≢true}
 use mathlib.Core.List.{List}
 use Prim.Native.Nat.{ℕ, suc, zero, _-_, _≤_, _<_}
 use native.Mathlib.Omega.{arith}
+use native.Mathlib.Nat.{le-trans}
 use lib.Dec.{leb, eqb}
 use lib.IntN.{ℤ, pos, negsuc, natAbs}
 use lib.Signed.{leZ, ltZ}
@@ -83,6 +84,10 @@ exponent-degree b i (suc zero) l = omega arith
 exponent-degree b i (suc (suc zero)) l = omega arith
 exponent-degree b i (suc (suc (suc zero))) l = omega arith
 exponent-degree b i (suc (suc (suc (suc a)))) l = absurd (omega arith)
+
+-- so an exponent of a term within the limits is small
+pub exponent-limit : {n : ℕ} {b : List ℕ} {i : ℕ} → TermRange n b i → (a : ℕ) → a < 4 → exponentOf b i a ≤ degreeLimit
+exponent-limit {b = b} {i = i} r a l = le-trans (exponent-degree b i a l) (r .sum)
 
 module _ (n : ℕ) (b : List ℕ) (h : polynomialOk n b ≡ true) where
   term-at : (i : ℕ) → i < termCount b → (termOk n b i && rises b i) ≡ true

@@ -1,11 +1,11 @@
 -- Boolean tests taken apart: a test that holds for each number of a range, and the range of the dimensions.
 use mathlib.Core.Path.{_≡_, refl, sym, subst, _∙_}
-use mathlib.Core.Bool.{Bool, true, false, true≢false}
+use mathlib.Core.Bool.{Bool, true, false, _||_, true≢false}
 use mathlib.Core.List.{map}
-use Prim.Native.Nat.{ℕ, suc, zero, _+_, _≤_, _<_}
+use Prim.Native.Nat.{ℕ, suc, zero, _+_, _-_, _≤_, _<_}
 use native.Mathlib.Omega.{arith}
-use lib.Dec.{eqb, leb}
-use borrow.Author.Tests.{eqb-true, eqb-false, leb-true}
+use lib.Dec.{eqb, leb, ltb}
+use borrow.Author.Tests.{eqb-true, eqb-false, leb-true, ltb-false, le-ltb}
 use Rattle.exact.proofs.AndTests.{and-left, and-right, and-true}
 use Rattle.exact.specs.Crossed.{countFrom}
 use Rattle.curves.specs.Step.{every}
@@ -77,6 +77,35 @@ all-fails-at t k m i l u h = go (allFrom t k m) refl
     go : (b : Bool) → allFrom t k m ≡ b → allFrom t k m ≡ false
     go true e = absurd (true≢false (sym (all-at t k m i e l u) ∙ h))
     go false e = e
+
+-- a test of the numbers from n on is one of all numbers that passes those under n
+module _ (t : ℕ → Bool) (n m : ℕ) where
+  abbrev underOr : ℕ → Bool
+  underOr a = ltb a n || t a
+
+  pub all-from-on : allFrom t n (m - n) ≡ allFrom underOr 0 m
+  all-from-on = go (allFrom t n (m - n)) (allFrom underOr 0 m) refl refl
+    where
+      over : (a : ℕ) → underOr a ≡ false → n ≤ a
+      over a h = go (ltb a n) refl
+        where
+          go : (p : Bool) → ltb a n ≡ p → n ≤ a
+          go true e = absurd (true≢false (rw e at h))
+          go false e = ltb-false a n e
+
+      same : (a : ℕ) → n ≤ a → underOr a ≡ t a
+      same a h = rw (le-ltb a n h)
+
+      go : (p q : Bool) → allFrom t n (m - n) ≡ p → allFrom underOr 0 m ≡ q → allFrom t n (m - n) ≡ allFrom underOr 0 m
+      go true true e f = e ∙ sym f
+      go false false e f = e ∙ sym f
+      go true false e f =
+          let x = all-failing underOr 0 m f in
+          let l = over (x .at) (x .fails) in
+          absurd (true≢false (sym (all-at t n (m - n) (x .at) e l (omega (arith, l, x .under))) ∙ sym (same (x .at) l) ∙ x .fails))
+      go false true e f =
+          let x = all-failing t n (m - n) e in
+          absurd (true≢false (sym (all-at underOr 0 m (x .at) f (omega arith) (omega (arith, x .from, x .under))) ∙ same (x .at) (x .from) ∙ x .fails))
 
 -- tests that agree on the range agree on all of it
 pub all-same : (t u : ℕ → Bool) (k m : ℕ) → ((i : ℕ) → k ≤ i → i < k + m → t i ≡ u i) → allFrom t k m ≡ allFrom u k m

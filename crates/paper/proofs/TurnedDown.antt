@@ -3,7 +3,7 @@
 use mathlib.Core.Path.{_≡_, refl, sym, ap, subst, _∙_}
 use mathlib.Core.Logic.{_≢_, _↔_}
 use mathlib.Core.Bool.{Bool, true, false, not, _&&_, true≢false}
-use mathlib.Core.List.{List, map}
+use mathlib.Core.List.{List}
 use mathlib.Core.Option.{none, some, Option·some-injective, Option·none-ne-some}
 use Prim.Native.Nat.{ℕ, suc, zero, _+_, _-_, _≤_, _<_}
 use native.Mathlib.Omega.{arith}
@@ -11,18 +11,17 @@ use lib.Dec.{leb, ltb, eqb, lit<}
 use lib.IntN.{natAbs}
 use lib.ListN.{length, getElem?}
 use borrow.Author.Tests.{ltb-true, ltb-false, leb-false, eqb-true, eqb-false, not-false, le-ltb, eq-eqb}
-use Rattle.exact.specs.Crossed.{countFrom}
 use Rattle.exact.proofs.AndTests.{and-left}
-use Rattle.exact.proofs.CountFrom.{getD-map-countFrom, getD-past-countFrom}
+use Rattle.exact.proofs.CountFrom.{getD-map-countFrom, getD-past-countFrom, getElem-map-countFrom, getElem-past-countFrom}
 use Rattle.exact.proofs.SizeLaws.{natAbs-zero}
 use Rattle.paper.specs.Bytes.{byte}
 use Rattle.paper.specs.Limits.{coefficientLimit, degreeLimit}
 use Rattle.paper.specs.Job.{dimension, body, allFrom, termCount, coefficientOf, exponentOf, exponentsZero, degree, termOk, exponentWeight, rises, polynomialOk, refuseIf, openRefusal}
 use Rattle.paper.specs.RunningSum.{Term, termOf, termsOf}
-use Rattle.paper.specs.BadTerm.{exponentAt, BreaksLimit, zero-coefficient, large-coefficient, upper-exponent, large-sum, RisesOver, BadTerm, breaks, stays, BadJobTerm}
+use Rattle.paper.specs.BadTerm.{exponentAt, BreaksLimit, zero-coefficient, large-coefficient, upper-exponent, large-sum, RisesOver, BadTerm, breaks, not-rising, JobWithBadTerm}
 use Rattle.paper.proofs.Tests.{Failing, all-failing, all-fails-at}
 use Rattle.paper.proofs.Refusals.{refuse-here, refuse-later, answered-later}
-use Rattle.paper.proofs.Terms.{TermRange, term-range, polynomial-term, exponent-degree, terms-rise}
+use Rattle.paper.proofs.Terms.{TermRange, term-range, polynomial-term, exponent-limit, terms-rise}
 use Rattle.paper.proofs.SumFromTop.{exponents-sum}
 
 -- ---- the exponents of a body's term
@@ -116,53 +115,32 @@ module _ (b : List ℕ) (i j : ℕ) (low : (a : ℕ) → a < 4 → exponentOf b 
       none : (a : ℕ) → a < 0 → exponentOf b i a ≡ exponentOf b j a
       none a u = absurd (omega arith)
 
-      one : exponentOf b i 0 ≡ exponentOf b j 0 → (a : ℕ) → a < 1 → exponentOf b i a ≡ exponentOf b j a
-      one e zero u = e
-      one e (suc a) u = absurd (omega arith)
-
-      two : exponentOf b i 0 ≡ exponentOf b j 0 → exponentOf b i 1 ≡ exponentOf b j 1 → (a : ℕ) → a < 2 → exponentOf b i a ≡ exponentOf b j a
-      two e f zero u = e
-      two e f (suc zero) u = f
-      two e f (suc (suc a)) u = absurd (omega arith)
-
-      three : exponentOf b i 0 ≡ exponentOf b j 0 → exponentOf b i 1 ≡ exponentOf b j 1 → exponentOf b i 2 ≡ exponentOf b j 2 → (a : ℕ) → a < 3
+      -- equal on the axes under k and on axis k
+      more : (k : ℕ) → ((a : ℕ) → a < k → exponentOf b i a ≡ exponentOf b j a) → exponentOf b i k ≡ exponentOf b j k → (a : ℕ) → a < suc k
           → exponentOf b i a ≡ exponentOf b j a
-      three e f g zero u = e
-      three e f g (suc zero) u = f
-      three e f g (suc (suc zero)) u = g
-      three e f g (suc (suc (suc a))) u = absurd (omega arith)
+      more k s e a u = last (eqb k a) refl
+        where
+          last : (t : Bool) → eqb k a ≡ t → exponentOf b i a ≡ exponentOf b j a
+          last true f = subst (λ (x : ℕ). exponentOf b i x ≡ exponentOf b j x) (eqb-true k a f) e
+          last false f = s a (omega (arith, eqb-false k a f))
 
       go : (p q r : Bool) → eqb (exponentOf b i 0) (exponentOf b j 0) ≡ p → eqb (exponentOf b i 1) (exponentOf b j 1) ≡ q
           → eqb (exponentOf b i 2) (exponentOf b j 2) ≡ r → RisesOver (termOf b i) (termOf b j)
       go false q r x y z = unfold exponentWeight in
           rises-on 0 (lit< tt) none (omega (arith, h, differ 0 x, high 1 (lit< tt), high 2 (lit< tt), high 3 (lit< tt)))
       go true false r x y z = unfold exponentWeight in
-          rises-on 1 (lit< tt) (one (equal 0 x)) (omega (arith, h, equal 0 x, differ 1 y, high 2 (lit< tt), high 3 (lit< tt)))
+          rises-on 1 (lit< tt) (more 0 none (equal 0 x)) (omega (arith, h, equal 0 x, differ 1 y, high 2 (lit< tt), high 3 (lit< tt)))
       go true true false x y z = unfold exponentWeight in
-          rises-on 2 (lit< tt) (two (equal 0 x) (equal 1 y)) (omega (arith, h, equal 0 x, equal 1 y, differ 2 z, high 3 (lit< tt)))
+          rises-on 2 (lit< tt) (more 1 (more 0 none (equal 0 x)) (equal 1 y)) (omega (arith, h, equal 0 x, equal 1 y, differ 2 z, high 3 (lit< tt)))
       go true true true x y z = unfold exponentWeight in
-          rises-on 3 (lit< tt) (three (equal 0 x) (equal 1 y) (equal 2 z)) (omega (arith, h, equal 0 x, equal 1 y, equal 2 z))
+          rises-on 3 (lit< tt) (more 2 (more 1 (more 0 none (equal 0 x)) (equal 1 y)) (equal 2 z)) (omega (arith, h, equal 0 x, equal 1 y, equal 2 z))
 
 -- ---- the list of a body's terms
-
-module _ {A : Type 0} (f : ℕ → A) where
-  element-there : (k m i : ℕ) → i < m → getElem? (map f (countFrom k m)) i ≡ some (f (k + i))
-  unfolding countFrom
-  element-there k zero i h = absurd (omega arith)
-  element-there k (suc m) zero h = let same : k ≡ k + 0 = omega arith in ap (λ (x : ℕ). some (f x)) same
-  element-there k (suc m) (suc i) h =
-      let same : suc k + i ≡ k + suc i = omega arith in element-there (suc k) m i (omega arith) ∙ ap (λ (x : ℕ). some (f x)) same
-
-  element-past : (k m i : ℕ) → m ≤ i → getElem? (map f (countFrom k m)) i ≡ none
-  unfolding countFrom
-  element-past k zero i h = refl
-  element-past k (suc m) zero h = absurd (omega arith)
-  element-past k (suc m) (suc i) h = element-past (suc k) m i (omega arith)
 
 module _ (b : List ℕ) (i : ℕ) where
   term-there : i < termCount b → getElem? (termsOf b) i ≡ some (termOf b i)
   unfolding termsOf
-  term-there h = let same : 0 + i ≡ i = omega arith in element-there (termOf b) 0 (termCount b) i h ∙ ap (λ (x : ℕ). some (termOf b x)) same
+  term-there h = let same : 0 + i ≡ i = omega arith in getElem-map-countFrom (termOf b) 0 (termCount b) i h ∙ ap (λ (x : ℕ). some (termOf b x)) same
 
   -- what stands at place i of the list is term i of the body
   term-known : (t : Term) → getElem? (termsOf b) i ≡ some t → (i < termCount b) × (termOf b i ≡ t)
@@ -171,15 +149,15 @@ module _ (b : List ℕ) (i : ℕ) where
       go : (u : Bool) → ltb i (termCount b) ≡ u → (i < termCount b) × (termOf b i ≡ t)
       go true e = let l = ltb-true i (termCount b) e in (l, Option·some-injective (termOf b i) t (sym (term-there l) ∙ h))
       go false e = unfold termsOf in
-          absurd (Option·none-ne-some t (sym (element-past (termOf b) 0 (termCount b) i (ltb-false i (termCount b) e)) ∙ h))
+          absurd (Option·none-ne-some t (sym (getElem-past-countFrom (termOf b) 0 (termCount b) i (ltb-false i (termCount b) e)) ∙ h))
 
 -- ---- the theorem
 
 module _ (n : ℕ) (b : List ℕ) where
   -- an exponent of a term within the limits is a byte
-  exponent-small : {i : ℕ} → TermRange n b i → (a : ℕ) → a < 4 → exponentOf b i a < 256
+  exponent-byte : {i : ℕ} → TermRange n b i → (a : ℕ) → a < 4 → exponentOf b i a < 256
   unfolding degreeLimit
-  exponent-small {i} r a l = omega (arith, exponent-degree b i a l, r .sum)
+  exponent-byte r a l = omega (arith, exponent-limit r a l)
 
   -- the first term that does not pass is a bad one
   first-is-bad : polynomialOk n b ≡ false → (i : ℕ) × BadTerm n (termsOf b) i
@@ -193,29 +171,29 @@ module _ (n : ℕ) (b : List ℕ) where
       there = omega (arith, first .under)
 
       -- a term that passes its own test is not the first and does not rise
-      falls : termOk n b (first .at) ≡ true → rises b (first .at) ≡ false
-      falls e = rw e at (first .fails)
+      not-rises : termOk n b (first .at) ≡ true → rises b (first .at) ≡ false
+      not-rises e = rw e at (first .fails)
 
       go : (p q : Bool) → termOk n b (first .at) ≡ p → eqb (first .at) 0 ≡ q → BadTerm n (termsOf b) (first .at)
       go false q e f = breaks (termOf b (first .at)) (term-there b (first .at) there) (breaks-limit n b (first .at) e)
-      go true true e f = unfold rises in absurd (true≢false (rw f at (falls e)))
+      go true true e f = unfold rises in absurd (true≢false (rw f at (not-rises e)))
       go true false e f = unfold rises in
           let i : ℕ = first .at in
           let more : 0 < i = omega (arith, eqb-false i 0 f) in
           let before = term-range n b (i - 1) (and-left (termOk n b (i - 1)) (rises b (i - 1)) (first .earlier (i - 1) (omega arith) (omega arith))) in
-          let weights : exponentWeight b i ≤ exponentWeight b (i - 1) = ltb-false _ _ (rw f at (falls e)) in
-          stays (termOf b (i - 1)) (termOf b i) (omega (arith, more)) (term-there b (i - 1) (omega (arith, there))) (term-there b i there)
-          (λ r. omega (arith, weights, weight-rises b (i - 1) i (exponent-small before) (exponent-small (term-range n b i e)) r))
+          let weights : exponentWeight b i ≤ exponentWeight b (i - 1) = ltb-false _ _ (rw f at (not-rises e)) in
+          not-rising (termOf b (i - 1)) (termOf b i) (omega (arith, more)) (term-there b (i - 1) (omega (arith, there))) (term-there b i there)
+          (λ r. omega (arith, weights, weight-rises b (i - 1) i (exponent-byte before) (exponent-byte (term-range n b i e)) r))
 
   no-bad-term : polynomialOk n b ≡ true → (i : ℕ) → BadTerm n (termsOf b) i → ⊥
   no-bad-term h i (breaks t e x) =
       let k = term-known b i t e in
       within-limits n b i (polynomial-term n b h i (k .0)) (subst (BreaksLimit n) (sym (k .1)) x)
-  no-bad-term h i (stays s t p d e x) =
+  no-bad-term h i (not-rising s t p d e x) =
       let before = term-known b (i - 1) s d in
       let here = term-known b i t e in
       x (subst (λ y. RisesOver y t) (before .1) (subst (RisesOver (termOf b (i - 1))) (here .1)
-      (rises-by-weight b (i - 1) i (exponent-small (polynomial-term n b h (i - 1) (before .0))) (exponent-small (polynomial-term n b h i (here .0)))
+      (rises-by-weight b (i - 1) i (exponent-byte (polynomial-term n b h (i - 1) (before .0))) (exponent-byte (polynomial-term n b h i (here .0)))
       (terms-rise n b h i (omega (arith, p)) (here .0)))))
 
   -- a body is turned down exactly if some term breaks a limit or does not rise over the one before it
@@ -229,7 +207,7 @@ module _ (n : ℕ) (b : List ℕ) where
 -- ---- Open
 
 -- 7 is the answer exactly if the tests before it refuse nothing and some polynomial has a bad term
-pub refusal-7 : (s : List ℕ) → (openRefusal s ≡ 7) ↔ BadJobTerm s
+pub refusal-7 : (s : List ℕ) → (openRefusal s ≡ 7) ↔ JobWithBadTerm s
 refusal-7 s = (answered-7, answer-7)
   where
     -- the test of the terms answers it, and no later one
@@ -238,7 +216,7 @@ refusal-7 s = (answered-7, answer-7)
     terms-fail true false h = unfold refuseIf in absurd (omega arith)
     terms-fail true true h = unfold refuseIf in absurd (omega arith)
 
-    answered-7 : openRefusal s ≡ 7 → BadJobTerm s
+    answered-7 : openRefusal s ≡ 7 → JobWithBadTerm s
     answered-7 h = unfold openRefusal in
         let r1 = answered-later _ 1 _ (λ z. omega arith) h in
         let r2 = answered-later _ 2 _ (λ z. omega arith) (r1 .next) in
@@ -263,7 +241,7 @@ refusal-7 s = (answered-7, answer-7)
           bad = bad .1;
         }
 
-    answer-7 : BadJobTerm s → openRefusal s ≡ 7
+    answer-7 : JobWithBadTerm s → openRefusal s ≡ 7
     answer-7 j = unfold openRefusal in
         let fails = turned-down (dimension s) (body s (j .polynomial)) .1 (j .term, j .bad) in
         refuse-later 1 _ (le-ltb (length s) 4 (j .long))

@@ -1,5 +1,5 @@
 -- What request 2.3 says of a polynomial's body: it is turned down exactly if some term breaks a limit or does not rise over the one before it. Limits
--- and order are said of the terms of a list, in the words of document 01, section "The job", and not by the tests of `polynomialOk`.
+-- and order are said of the terms of a list, in the words of document 01, section "The job", and not by the tests of `polynomialOk`. Then of a job, which Open answers 7.
 use Prim.Native.Nat.{ℕ, _+_, _-_, _≤_, _<_}
 use mathlib.Core.Path.{_≡_}
 use mathlib.Core.Logic.{_≢_}
@@ -35,11 +35,11 @@ pub record RisesOver (before t : Term) : Type 0 where
 -- term i of a list, counted from 0, breaks a limit or does not rise over the one before it
 pub data BadTerm (n : ℕ) (ts : List Term) (i : ℕ) : Type 0 where
   breaks : (t : Term) → getElem? ts i ≡ some t → BreaksLimit n t → BadTerm n ts i
-  stays :
+  not-rising :
       (before t : Term) → 0 < i → getElem? ts (i - 1) ≡ some before → getElem? ts i ≡ some t → (RisesOver before t → ⊥) → BadTerm n ts i
 
 -- a job of which Open's tests 1 to 6 refuse nothing, and a bad term in one of its polynomials
-pub record BadJobTerm (s : List ℕ) : Type 0 where
+pub record JobWithBadTerm (s : List ℕ) : Type 0 where
   pub long : 4 ≤ length s
   pub mark : byte s 0 ≡ 1
   pub dimensions : dimensionOk (dimension s) ≡ true

@@ -6,12 +6,11 @@ use mathlib.Core.Bool.{Bool, true, false}
 use mathlib.Core.List.{List}
 use Prim.Native.Nat.{ℕ, _+_, _*_, _≤_, _<_}
 use native.Mathlib.Omega.{arith}
-use native.Mathlib.Nat.{le-trans}
 use lib.Dec.{ltb, eqb, lit<}
 use borrow.Author.Tests.{eqb-true, eqb-false}
 use Rattle.paper.specs.Limits.{degreeLimit}
 use Rattle.paper.specs.Job.{exponentOf, termOk, exponentWeight}
-use Rattle.paper.proofs.Terms.{term-range, exponent-degree}
+use Rattle.paper.proofs.Terms.{term-range, exponent-limit}
 use Rattle.terms.specs.Carried.{shortWeight}
 use Rattle.terms.proofs.SameTests.{leb-same}
 
@@ -43,7 +42,7 @@ digits-agree x y z w x′ y′ z′ w′ k1 k2 k3 k4 l1 l2 l3 l4 = go (eqb x x�
 -- an exponent of a term within the limits
 exponent-small : (n : ℕ) (b : List ℕ) (i : ℕ) → termOk n b i ≡ true → (a : ℕ) → a < 4 → exponentOf b i a ≤ 4
 unfolding degreeLimit
-exponent-small n b i h a l = le-trans (exponent-degree b i a l) (term-range n b i h .sum)
+exponent-small n b i h = exponent-limit (term-range n b i h)
 
 pub order-same :
     (n : ℕ) (b : List ℕ) (i j : ℕ) → termOk n b i ≡ true → termOk n b j ≡ true

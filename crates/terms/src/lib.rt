@@ -17,8 +17,8 @@ const COEFFICIENT: u64 = 1048576;
 // The sum of a term's exponents.
 const DEGREE: u64 = 4;
 
-// The coefficient of term i is not 0 and not too large. Its 32 bits are looked at as an unsigned number: moved up by the limit, and round from 2^32
-// to 0, the coefficients that are not too large are the numbers from 0 to twice the limit.
+// The coefficient of term i is not 0 and not too large. The limit is added to its 32 bits modulo 2^32: those that are not too large then are the
+// numbers from 0 to twice the limit.
 fn coefficient_ok(b: &[u8], i: usize) -> bool
     requires { ⌜ 8 * i + 8 ≤ length (now b) ⌝ }
     ensures { λ r. ⌜ r ≡ coefficientOk (now (b .entry)) i ⌝ }

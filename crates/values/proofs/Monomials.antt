@@ -4,7 +4,7 @@ use mathlib.Core.Path.{_≡_, refl}
 use mathlib.Core.List.{List}
 use Prim.Native.Nat.{ℕ, _+_, _*_, _^_, _≤_, _<_}
 use native.Mathlib.Omega.{arith}
-use native.Mathlib.Nat.{le-trans, one-le-pow}
+use native.Mathlib.Nat.{one-le-pow}
 use lib.IntN.{ℤ, pos, _*ℤ_}
 use lib.ListN.{length, getD}
 use lib.Dec.{lit≤, lit<}
@@ -19,7 +19,7 @@ use Rattle.paper.specs.Limits.{coordinateLimit, coefficientLimit, degreeLimit}
 use Rattle.paper.specs.Job.{termCount, exponentOf, coefficientOf, degree}
 use Rattle.paper.specs.Values.{monomial, termValue}
 use Rattle.paper.specs.RunningSum.{monomialLimit, termSize}
-use Rattle.paper.proofs.Terms.{polynomial-term, exponent-degree}
+use Rattle.paper.proofs.Terms.{polynomial-term, exponent-limit}
 use Rattle.bits.specs.Axes.{Axes}
 use Rattle.bits.proofs.EachDimension.{each-axes}
 use Rattle.places.specs.Held.{counted}
@@ -46,7 +46,7 @@ exponents {n} {b} p i l =
     let t = polynomial-term n b (p .terms) i l in
     record {
       sum = t .sum;
-      each = λ a h. le-trans (exponent-degree b i a h) (t .sum);
+      each = exponent-limit t;
       coefficient = record { size = t .size };
     }
 
