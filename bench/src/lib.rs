@@ -1,4 +1,4 @@
-//! Two tracers and an opener in Rust for comparing times, and the jobs that are timed.
+//! Two tracers and two openers in Rust for comparing times, and the jobs that are timed.
 
 pub mod careful;
 pub mod jobs;
@@ -15,7 +15,7 @@ mod tests {
     use reference::tally::{Answer, Tally};
 
     use crate::jobs::to_open;
-    use crate::open::{open, Opened};
+    use crate::open::{open, open_carefully, Opened};
     use crate::{careful, plain};
 
     /// Compares answers and buffers of that length with the reference; gives the answer.
@@ -66,7 +66,7 @@ mod tests {
         }
     }
 
-    /// Compares the opener's answer with the reference; gives what it is.
+    /// Compares the openers' answers with the reference; gives what they are.
     fn opened(job: &[u8]) -> Answer {
         let wanted = Reference.open(job).map(|(n, counts)| {
             let mut terms = [0; 3];
@@ -74,6 +74,7 @@ mod tests {
             Opened { n, terms }
         });
         assert_eq!(open(job), wanted, "{job:?}");
+        assert_eq!(open_carefully(job), wanted, "{job:?}");
         wanted.map(|_| "opens")
     }
 

@@ -7,8 +7,8 @@
 //!     bench open                   Open on jobs in a row
 //!     bench write FOLDER           writes the jobs of `jobs.rs` to files and prints their names
 //!
-//! For a counter of instructions, one tracer or opener (proved, plain, before, and for Trace
-//! careful) so many times:
+//! For a counter of instructions, one tracer or opener (proved, plain, careful, before) so many
+//! times:
 //!
 //!     bench run TRACER FILE TIMES             prints the places of one time
 //!     bench run-open OPENER N TERMS TIMES     300 jobs of dimension N with TERMS terms a body, or

@@ -1,6 +1,9 @@
-//! Open in straightforward Rust, made for comparing times: one pass over the contents and one over
-//! each body, the exponents of the term before carried along, nothing allocated. Unproved; compared
-//! with the reference by the tests of `lib.rs`.
+//! Open in Rust, made for comparing times: one pass over the contents and one over each body, the
+//! exponents of the term before carried along, nothing allocated. Once straightforward (`open`), and
+//! once with a careful test of the terms (`open_carefully`): n is a const parameter and a term is an
+//! array of 8 bytes, so that no index is tested. Unproved; compared with the reference by the tests
+//! of `lib.rs`. Every function is inlined, as the compiler does by itself in a program that has one
+//! of the two.
 
 /// What Open answers to a job that it does not turn down.
 #[derive(Clone, Copy, PartialEq, Eq, Debug)]
@@ -13,16 +16,19 @@ pub struct Opened {
 /// The bodies of a job: box, the n - 1 polynomials, start; room for those of dimension 4.
 type Bodies<'a> = [&'a [u8]; 5];
 
+#[inline(always)]
 fn unsigned_16(bytes: &[u8]) -> usize {
     u16::from_le_bytes([bytes[0], bytes[1]]) as usize
 }
 
+#[inline(always)]
 fn signed_16(bytes: &[u8]) -> i16 {
     i16::from_le_bytes([bytes[0], bytes[1]])
 }
 
 /// The bodies; none if the contents are cut short, the bodies are not adjacent or do not end the
 /// job, or a length is wrong for its kind.
+#[inline(always)]
 fn bodies(n: usize, most_terms: usize, job: &[u8]) -> Option<Bodies<'_>> {
     let contents = job.get(4..4 + 4 * (n + 1))?;
     let mut bodies: Bodies = [&[]; 5];
@@ -46,12 +52,14 @@ fn bodies(n: usize, most_terms: usize, job: &[u8]) -> Option<Bodies<'_>> {
 }
 
 /// Whether the low and high end of an axis are within their limits, low under high.
+#[inline(always)]
 fn is_axis(ends: &[u8]) -> bool {
     let (low, high) = (signed_16(ends), signed_16(&ends[2..]));
     -256 <= low && low < high && high <= 256
 }
 
 /// Whether each term is within its limits and rises over the one before.
+#[inline(always)]
 fn is_polynomial(n: usize, body: &[u8]) -> bool {
     let mut before: Option<[u8; 4]> = None;
     for term in body.chunks_exact(8) {
@@ -72,7 +80,29 @@ fn is_polynomial(n: usize, body: &[u8]) -> bool {
     true
 }
 
+/// The same for dimension N, carefully.
+#[inline(always)]
+fn is_polynomial_in<const N: usize>(body: &[u8]) -> bool {
+    let mut before: Option<[u8; 4]> = None;
+    for term in body.as_chunks::<8>().0 {
+        let coefficient = i32::from_le_bytes(term[..4].try_into().unwrap());
+        let exponents: [u8; 4] = term[4..].try_into().unwrap();
+        let degree: u32 = exponents.iter().map(|&e| e as u32).sum();
+        if coefficient == 0
+            || coefficient.unsigned_abs() > 1_048_576
+            || exponents[N..].iter().any(|&e| e != 0)
+            || degree > 4
+            || before.is_some_and(|before| exponents <= before)
+        {
+            return false;
+        }
+        before = Some(exponents);
+    }
+    true
+}
+
 /// Whether the masks of a place are a chain of masks of n axes, and the side is 0 or 1.
+#[inline(always)]
 fn is_place(n: usize, body: &[u8]) -> bool {
     let (masks, side) = (&body[2 * n..3 * n - 1], body[3 * n - 1]);
     let mut before = 0;
@@ -88,6 +118,20 @@ fn is_place(n: usize, body: &[u8]) -> bool {
 
 /// Open: n and the counts of terms, or the number of the first refusal.
 pub fn open(job: &[u8]) -> Result<Opened, u8> {
+    open_by(job, is_polynomial)
+}
+
+/// The same with the careful test of the terms.
+pub fn open_carefully(job: &[u8]) -> Result<Opened, u8> {
+    open_by(job, |n, body| match n {
+        2 => is_polynomial_in::<2>(body),
+        3 => is_polynomial_in::<3>(body),
+        _ => is_polynomial_in::<4>(body),
+    })
+}
+
+#[inline(always)]
+fn open_by(job: &[u8], is_polynomial: impl Fn(usize, &[u8]) -> bool) -> Result<Opened, u8> {
     // Byte 3 is the bias, which may be any byte.
     let &[kind, n, entries, _, ..] = job else { return Err(1) };
     if kind != 1 {

@@ -7,7 +7,7 @@ use std::time::{Duration, Instant};
 
 use reference::limits::{Limits, DIMENSIONS};
 use tracer::jobs::to_open;
-use tracer::open::{open, Opened};
+use tracer::open::{open, open_carefully, Opened};
 
 use crate::archives;
 
@@ -32,6 +32,11 @@ const OPENERS: &[Opener] = &[
         open_all: |jobs| open_all(archives::open, jobs),
     },
     Opener { name: "plain", answer: open, open_all: |jobs| open_all(open, jobs) },
+    Opener {
+        name: "careful",
+        answer: open_carefully,
+        open_all: |jobs| open_all(open_carefully, jobs),
+    },
     #[cfg(before)]
     Opener {
         name: "before",
@@ -43,10 +48,11 @@ const OPENERS: &[Opener] = &[
 /// The ratios that are printed, by positions in the list of openers.
 const RATIOS: &[(usize, usize)] = &[
     (0, 1),
-    #[cfg(before)]
-    (2, 1),
-    #[cfg(before)]
     (0, 2),
+    #[cfg(before)]
+    (3, 1),
+    #[cfg(before)]
+    (0, 3),
 ];
 
 /// Opens all the jobs, one after another. The answers stay as the opener gives them, so that none
