@@ -170,7 +170,7 @@ module _ (n : ℕ) (b : List ℕ) where
       there : first .at < termCount b
       there = omega (arith, first .under)
 
-      -- a term that passes its own test is not the first and does not rise
+      -- if it passes its own test, it does not rise
       not-rises : termOk n b (first .at) ≡ true → rises b (first .at) ≡ false
       not-rises e = rw e at (first .fails)
 

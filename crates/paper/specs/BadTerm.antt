@@ -1,5 +1,6 @@
 -- What request 2.3 says of a polynomial's body: it is turned down exactly if some term breaks a limit or does not rise over the one before it. Limits
--- and order are said of the terms of a list, in the words of document 01, section "The job", and not by the tests of `polynomialOk`. Then of a job, which Open answers 7.
+-- and order are said of the terms of a list, in the words of document 01, section "The job", and not by the tests of `polynomialOk`. Last, what a job
+-- has that Open answers 7.
 use Prim.Native.Nat.{ℕ, _+_, _-_, _≤_, _<_}
 use mathlib.Core.Path.{_≡_}
 use mathlib.Core.Logic.{_≢_}

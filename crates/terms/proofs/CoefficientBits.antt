@@ -1,5 +1,5 @@
--- The test of a coefficient on its 32 bits as an unsigned number: 0 is 0, and moved up by the limit the others that are not too large in size are at
--- most twice the limit.
+-- The test of a coefficient on its 32 bits as an unsigned number: 0 is 0, and with the limit added modulo 2 ^ 32 the others that are not too large in
+-- size are at most twice the limit.
 use mathlib.Core.Path.{_≡_, refl, _∙_}
 use mathlib.Core.Logic.{_≢_}
 use mathlib.Core.Bool.{Bool, true, false, not, _&&_}
