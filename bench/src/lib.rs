@@ -2,11 +2,14 @@
 
 pub mod careful;
 pub mod jobs;
+pub mod long_curves;
 pub mod open;
 pub mod plain;
 
 #[cfg(test)]
 mod tests {
+    use std::fmt::Debug;
+
     use reference::build::{assemble, case_a, case_c, exponents, gathered, place, term, Parts};
     use reference::generate::{any_job, valid, JobTally, Random};
     use reference::limits::{Limits, DIMENSIONS};
@@ -14,19 +17,20 @@ mod tests {
     use reference::product::{Product, Reference};
     use reference::tally::{Answer, Tally};
 
-    use crate::jobs::to_open;
+    use crate::jobs::{jobs, to_open};
+    use crate::long_curves::{long_curves, spaces};
     use crate::open::{open, open_carefully, Opened};
     use crate::{careful, plain};
 
     /// Compares answers and buffers of that length with the reference; gives the answer.
-    fn compared(parts: &Parts, length: usize) -> Result<(Verdict, usize), u8> {
+    fn compared(what: &impl Debug, job: &[u8], length: usize) -> Result<(Verdict, usize), u8> {
         let noise = vec![0x5a; length];
         let mut wanted_buffer = noise.clone();
-        let wanted = Reference.trace(&parts.bytes(), &mut wanted_buffer);
+        let wanted = Reference.trace(job, &mut wanted_buffer);
         for trace in [plain::trace, careful::trace] {
             let mut buffer = noise.clone();
-            assert_eq!(trace(&parts.bytes(), &mut buffer), wanted, "{parts:?}");
-            assert!(buffer == wanted_buffer, "{parts:?}");
+            assert_eq!(trace(job, &mut buffer), wanted, "{what:?}");
+            assert!(buffer == wanted_buffer, "{what:?}");
         }
         wanted
     }
@@ -38,7 +42,7 @@ mod tests {
         for _ in 0..30_000 {
             let (names, parts) = valid(&mut r);
             let length = 3 * parts.n * r.pick(&[0, 1, 7, 120]) + r.pick(&[0, 2]);
-            let _any = compared(&parts, length);
+            let _any = compared(&parts, &parts.bytes(), length);
             made.count(parts.n, names);
         }
         made.assert_all();
@@ -62,7 +66,42 @@ mod tests {
                 polynomials: vec![gathered(&terms)],
                 start: place(&[-11, 0], &[1], 0),
             };
-            assert_eq!(compared(&parts, 600), Ok((Verdict::Loop, count)), "bias {bias}");
+            let answer = compared(&parts, &parts.bytes(), 600);
+            assert_eq!(answer, Ok((Verdict::Loop, count)), "bias {bias}");
+        }
+    }
+
+    /// Every curve that is timed closes, with so many places. Those of `long_curves` fill each
+    /// space that they are timed with.
+    #[test]
+    fn timed_curves_are_loops() {
+        let length_of = |job: &[u8], space| 3 * job[1] as usize * space;
+        let timed = jobs().into_iter().chain(long_curves());
+        let names_and_places: Vec<(&str, usize)> = timed
+            .map(|(name, job)| match compared(&name, &job, length_of(&job, 50_000)) {
+                Ok((Verdict::Loop, places)) => (name, places),
+                answer => panic!("{name}: {answer:?}"),
+            })
+            .collect();
+        let wanted = [
+            ("circle_3", 3_418),
+            ("quartic_15", 534),
+            ("sphere_plane_4_4", 6_564),
+            ("quartic_plane_35_3", 1_064),
+            ("two_quartics_35_35", 716),
+            ("sphere_planes_5_3_2", 3_234),
+            ("quartic_planes_70_3_2", 890),
+            ("three_quartics_70_70_70", 426),
+            ("around_parabola_14", 6_658),
+            ("around_parabolas_14_14", 46_520),
+            ("angles_3_3_3", 48_876),
+        ];
+        assert_eq!(names_and_places, wanted);
+        for ((name, job), (_, places)) in long_curves().into_iter().zip(&wanted[jobs().len()..]) {
+            for space in spaces(*places) {
+                let answer = compared(&name, &job, length_of(&job, space));
+                assert_eq!(answer, Ok((Verdict::Full, space)), "{name}");
+            }
         }
     }
 

@@ -4,29 +4,49 @@
 //!
 //!     bench                        Trace on the jobs of `jobs.rs`
 //!     bench FILE..                 Trace on these job files
+//!     bench linear                 Trace on the curves of `long_curves.rs`, with more and more space
 //!     bench open                   Open on jobs in a row
 //!     bench write FOLDER           writes the jobs of `jobs.rs` to files and prints their names
+//!     bench write-long FOLDER      writes the curves of `long_curves.rs` to files and prints each
+//!                                  name once with each space
 //!
 //! For a counter of instructions, one tracer or opener (proved, plain, careful, before) so many
 //! times:
 //!
 //!     bench run TRACER FILE TIMES             prints the places of one time
+//!     bench run TRACER FILE SPACE TIMES       the same with space for so many places
 //!     bench run-open OPENER N TERMS TIMES     300 jobs of dimension N with TERMS terms a body, or
 //!                                             `full`; prints the bytes of one time
 
 mod archives;
+mod time_linear;
 mod time_open;
 mod time_trace;
 
-use std::path::Path;
+use std::path::{Path, PathBuf};
 
+use tracer::careful;
 use tracer::jobs::jobs;
+use tracer::long_curves::{long_curves, spaces};
+
+fn write_job(folder: &str, name: &str, job: &[u8]) -> PathBuf {
+    let file = Path::new(folder).join(format!("{name}.job"));
+    std::fs::write(&file, job).expect("a folder to write to");
+    file
+}
 
 fn write(folder: &str) {
     for (name, job) in jobs() {
-        let file = Path::new(folder).join(format!("{name}.job"));
-        std::fs::write(&file, job).expect("a folder to write to");
-        println!("{}", file.display());
+        println!("{}", write_job(folder, name, &job).display());
+    }
+}
+
+fn write_long(folder: &str) {
+    for (name, job) in long_curves() {
+        let file = write_job(folder, name, &job);
+        let mut buffer = time_trace::buffer_for(&job, time_trace::SPACE);
+        let (_, places) = careful::trace(&job, &mut buffer).expect("no refusal");
+        spaces(places).for_each(|space| println!("{} {space}", file.display()));
     }
 }
 
@@ -34,9 +54,14 @@ fn main() {
     let words: Vec<String> = std::env::args().skip(1).collect();
     let words: Vec<&str> = words.iter().map(|word| word.as_str()).collect();
     match words[..] {
+        ["linear"] => time_linear::all(),
         ["open"] => time_open::all(),
         ["write", folder] => write(folder),
-        ["run", tracer, file, times] => time_trace::run(tracer, file, times),
+        ["write-long", folder] => write_long(folder),
+        ["run", tracer, file, times] => time_trace::run(tracer, file, time_trace::SPACE, times),
+        ["run", tracer, file, space, times] => {
+            time_trace::run(tracer, file, space.parse().expect("how many places"), times)
+        }
         ["run-open", opener, n, terms, times] => time_open::run(opener, n, terms, times),
         [] => {
             time_trace::head();

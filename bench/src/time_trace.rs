@@ -12,8 +12,8 @@ use tracer::{careful, plain};
 #[cfg(before)]
 use crate::archives;
 
-/// Places that a buffer holds.
-const SPACE: usize = 20_000;
+/// Places that a buffer holds: more than any curve of the bench has.
+pub const SPACE: usize = 50_000;
 const ROUNDS: usize = 30;
 /// A round repeats a job until about this many places are written.
 const PLACES_A_ROUND: usize = 20_000;
@@ -21,7 +21,7 @@ const PLACES_A_ROUND: usize = 20_000;
 type Trace = fn(&[u8], &mut [u8]) -> Result<(Verdict, usize), u8>;
 
 /// The proved one first: the others are what it is compared with.
-const TRACERS: &[(&str, Trace)] = &[
+pub const TRACERS: &[(&str, Trace)] = &[
     ("proved", |job, buffer| Library.trace(job, buffer)),
     ("plain", plain::trace),
     ("careful", careful::trace),
@@ -30,14 +30,15 @@ const TRACERS: &[(&str, Trace)] = &[
 ];
 
 /// A buffer for the places of a job.
-fn buffer_for(job: &[u8], space: usize) -> Vec<u8> {
+pub fn buffer_for(job: &[u8], space: usize) -> Vec<u8> {
     vec![0; 3 * job[1] as usize * space]
 }
 
-/// Verdict and count of a job, after all tracers have been seen to write the same.
-fn agreed(name: &str, job: &[u8]) -> (Verdict, usize) {
+/// Verdict and count of a job with so much space, after all tracers have been seen to write the
+/// same.
+pub fn agreed(name: &str, job: &[u8], space: usize) -> (Verdict, usize) {
     let written = |trace: Trace| {
-        let mut buffer = buffer_for(job, SPACE);
+        let mut buffer = buffer_for(job, space);
         (trace(job, &mut buffer), buffer)
     };
     let first = written(TRACERS[0].1);
@@ -63,18 +64,29 @@ fn round(trace: Trace, job: &[u8], buffer: &mut [u8], repeats: usize) -> Duratio
     best
 }
 
-/// The line of a job.
-pub fn time(name: &str, job: &[u8]) {
-    let (verdict, count) = agreed(name, job);
-    let mut buffer = buffer_for(job, count + 1);
-    let repeats = (PLACES_A_ROUND / count).max(1);
-    let mut best = vec![Duration::MAX; TRACERS.len()];
-    for _ in 0..ROUNDS {
-        for (best, (_, trace)) in best.iter_mut().zip(TRACERS) {
-            *best = (*best).min(round(*trace, job, &mut buffer, repeats));
+/// Nanoseconds of the shortest call of each tracer, for each of these spaces. The spaces take turns
+/// as the tracers do, so that what else the machine does for a while is not all in one of them.
+/// About as many places are written as there is space.
+pub fn shortest(job: &[u8], spaces: &[usize], rounds: usize) -> Vec<Vec<f64>> {
+    let mut buffers: Vec<_> = spaces.iter().map(|&space| buffer_for(job, space)).collect();
+    let mut best = vec![vec![Duration::MAX; TRACERS.len()]; spaces.len()];
+    for _ in 0..rounds {
+        for ((&space, buffer), best) in spaces.iter().zip(&mut buffers).zip(&mut best) {
+            let repeats = (PLACES_A_ROUND / space).max(1);
+            for (best, (_, trace)) in best.iter_mut().zip(TRACERS) {
+                *best = (*best).min(round(*trace, job, buffer, repeats));
+            }
         }
     }
-    let times: Vec<f64> = best.iter().map(|d| d.as_nanos() as f64 / count as f64).collect();
+    let nanoseconds = |call: &Duration| call.as_nanos() as f64;
+    best.iter().map(|calls| calls.iter().map(nanoseconds).collect()).collect()
+}
+
+/// The line of a job.
+pub fn time(name: &str, job: &[u8]) {
+    let (verdict, count) = agreed(name, job, SPACE);
+    let calls = &shortest(job, &[count + 1], ROUNDS)[0];
+    let times: Vec<f64> = calls.iter().map(|ns| ns / count as f64).collect();
     print!("{name:<28} {:>5} {count:>6}", verdict.word());
     times.iter().for_each(|ns| print!(" {ns:>9.1}"));
     times[1..].iter().for_each(|ns| print!(" {:>15.2}", times[0] / ns));
@@ -92,13 +104,13 @@ pub fn read(file: &str) -> Vec<u8> {
     std::fs::read(file).unwrap_or_else(|error| panic!("{file}: {error}"))
 }
 
-/// One tracer on one job, so many times; prints the places of one.
-pub fn run(tracer: &str, file: &str, times: &str) {
+/// One tracer on one job with so much space, so many times; prints the places of one.
+pub fn run(tracer: &str, file: &str, space: usize, times: &str) {
     let known = TRACERS.iter().find(|(name, _)| *name == tracer);
     let (_, trace) = known.unwrap_or_else(|| panic!("no tracer {tracer}"));
     let times: usize = times.parse().expect("how many times");
     let job = read(file);
-    let mut buffer = buffer_for(&job, SPACE);
+    let mut buffer = buffer_for(&job, space);
     let mut count = 0;
     for _ in 0..times {
         count = black_box(trace(black_box(&job), black_box(&mut buffer))).expect("no refusal").1;

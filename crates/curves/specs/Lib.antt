@@ -5,6 +5,7 @@ pub mod Walk
 pub mod Curve
 pub mod Step
 pub mod Joined
+pub mod Carried
 pub mod WalkGrid
 pub mod WalkRun
 pub mod WalkDemand

@@ -25,7 +25,7 @@ use Rattle.exact.proofs.Position.{skip-position, skip-ne, skip-le, posi
 -- ---- alternating signs
 
 -- the sign of (−1) to the p, times a number of sign s
-alternateSign : ℕ → Sign → Sign
+unfoldable pub alternateSign : ℕ → Sign → Sign
 alternateSign zero s = s
 alternateSign (suc p) s = opposite (alternateSign p s)
 
@@ -44,7 +44,7 @@ unfolding alternate alternateSign
 sign-alternate zero x = refl
 sign-alternate (suc p) x = sign-neg (alternate p x) ∙ ap opposite (sign-alternate p x)
 
-lexSign-alternate :
+pub lexSign-alternate :
     {A : Type 0} (p : ℕ) (f : A → ℤ) (js : List A)
     → lexSign (map (λ j. alternate p (f j)) js) ≡ alternateSign p (lexSign (map f js))
 unfolding alternate alternateSign
@@ -61,11 +61,11 @@ facetSign n us p = sign (minor n us p)
 unfoldable pub vertexSign : ℕ → List Column → ℕ → ℕ → Sign
 vertexSign n us p q = lexSign (map (λ j. replacedMinor n us (unitColumn j) p q) (countFrom 0 n))
 
-facetSign-is : (n : ℕ) (us : List Column) (p : ℕ) → facetSign n us p ≡ alternateSign p (sign (determinant n (remove p us)))
+pub facetSign-is : (n : ℕ) (us : List Column) (p : ℕ) → facetSign n us p ≡ alternateSign p (sign (determinant n (remove p us)))
 unfolding facetSign minor
 facetSign-is n us p = sign-alternate p (determinant n (remove p us))
 
-vertexSign-is :
+pub vertexSign-is :
     (n : ℕ) (us : List Column) (p i : ℕ)
     → vertexSign n us p (skip p i) ≡ alternateSign p (lexSign (coefficients n (remove p us) i))
 unfolding vertexSign coefficients

@@ -24,6 +24,8 @@ pub mod Exit
 pub mod CrossedTest
 pub mod FacetSigns
 pub mod Simplex
+pub mod PairSigns
+pub mod ExitCompared
 pub mod Crossed2
 pub mod Examples
 pub mod Bits

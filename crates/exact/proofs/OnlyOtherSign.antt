@@ -176,7 +176,7 @@ module _ {n : ℕ} {δ : ℕ → Sign} {σ : ℕ → ℕ → Sign} (facts : Simp
   back q q≤ d = facts .antisymmetric p q p≤ q≤ d ∙ ap opposite (c .agree q q≤ d)
 
   -- another crossed facet has the opposite sign
-  other-opposite : (r : ℕ) → r ≤ n → p ≢ r → CrossedSigns n δ σ r → δ r ≡ opposite (δ p)
+  pub other-opposite : (r : ℕ) → r ≤ n → p ≢ r → CrossedSigns n δ σ r → δ r ≡ opposite (δ p)
   other-opposite r r≤ d cr = sym (cr .agree p p≤ (λ z. d (sym z))) ∙ back r r≤ d
 
   -- where δ q is the opposite sign, σ q agrees with it on every vertex whose δ is not that

@@ -6,4 +6,5 @@ pub mod Det
 pub mod Crossed
 pub mod Simplex
 pub mod Minors
+pub mod Compared
 pub mod Factorial

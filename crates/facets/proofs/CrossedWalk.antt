@@ -53,7 +53,7 @@ module _ (n : ℕ) (cs : List Column) where
       (i j : ℕ) → j < n → (signNumber (sign (coefficient n cs i j)) ≡ 0 → ⊥) → lexSign (leftAt i j) ≡ sign (coefficient n cs i j)
   left-found i j h z = left-next i j h ∙ orElse-found (sign (coefficient n cs i j)) _ z
 
-  left-none : (i j : ℕ) → n ≤ j → lexSign (leftAt i j) ≡ nought
+  pub left-none : (i j : ℕ) → n ≤ j → lexSign (leftAt i j) ≡ nought
   unfolding leftAt lexSign
   left-none i j h = ap (λ l. lexSign (map (λ k. coefficient n cs i k) l)) (countFrom-none j n h)
 

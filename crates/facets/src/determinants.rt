@@ -52,7 +52,7 @@ fn three_rows(cells: &[i64; 15], r: usize, s: usize, t: usize, a: usize, b: usiz
 }
 
 // The determinant of the facet without vertex `out`, without its column i and row j.
-fn minor(n: usize, cells: &[i64; 15], out: usize, i: usize, j: usize) -> i64
+pub fn minor(n: usize, cells: &[i64; 15], out: usize, i: usize, j: usize) -> i64
     requires { ⌜ Cells n (now cells) ⌝ }
     requires { ⌜ (out ≤ n) × ((i < n) × (j < n)) ⌝ }
     ensures { λ z. ⌜ Is coefficientLimit (det (remove j (rowsFrom 0 n)) (remove i (facetColumns n (now (cells .entry)) out))) z ⌝ }

@@ -1,13 +1,16 @@
--- Masks and side of a simplex's facet do not depend on its corner (`place-anywhere`), the lowest vertex gives the corner back
--- (`low-corner`), and lowest vertex, masks and side of a row's facet are the place (`place-is`).
+-- Masks and side of a simplex's facet (`place-anywhere`) and the order of a neighbour (`pivot-order`) do not depend on its corner, corner
+-- and lowest vertex give each other back (`low-corner`, `corner-low`), and lowest vertex, masks and side of a row's facet are the place
+-- (`place-is`).
 use Prim.Native.Nat.{ℕ, suc, zero, _-_, _≤_, _<_}
 use mathlib.Core.Path.{_≡_, refl, sym, ap, ap₂, _∙_}
+use mathlib.Core.Bool.{Bool, true, false, cond}
 use mathlib.Core.List.{List, [], _∷_}
 use native.Mathlib.Omega.{arith}
-use lib.ListN.{take}
-use Rattle.curves.specs.Grid.{Place, placeAt}
+use lib.ListN.{length, take}
+use lib.Dec.{eqb}
+use Rattle.curves.specs.Grid.{Place, placeAt, exchange, pivotFirst, pivotLast, pivotAt}
 use Rattle.curves.specs.Grid as Grid
-use Rattle.curves.proofs.Vertices.{up-down}
+use Rattle.curves.proofs.Vertices.{up-down, down-up}
 use Rattle.curves.proofs.IncidenceOk.{side-of-under}
 use Rattle.places.specs.declared.Vertex.{Vertex}
 use Rattle.places.specs.declared.HeldPlace.{HeldPlace}
@@ -34,6 +37,26 @@ unfolding lowOver cornerUnder
 low-corner v [] i = refl
 low-corner v (a ∷ o) zero = up-down a v
 low-corner v (a ∷ o) (suc i) = refl
+
+pub corner-low : (c : Grid.Vertex) (o : List ℕ) (i : ℕ) → cornerUnder (lowOver c o i) o i ≡ c
+unfolding lowOver cornerUnder
+corner-low c [] i = refl
+corner-low c (a ∷ o) zero = down-up a c
+corner-low c (a ∷ o) (suc i) = refl
+
+-- the neighbour's order does not depend on the corner
+pub pivot-order : (c : Grid.Vertex) (o : List ℕ) (i : ℕ) → pivotAt c o i .order ≡ pivotAt [] o i .order
+unfolding pivotAt pivotFirst pivotLast
+pivot-order c [] zero = refl
+pivot-order c (a ∷ o) zero = refl
+pivot-order c o (suc i) = go (eqb (suc i) (length o))
+  where
+    go :
+        (b : Bool)
+        → cond b (pivotLast c o) (record { corner = c; order = exchange i o; out = suc i }) .order
+        ≡ cond b (pivotLast [] o) (record { corner = []; order = exchange i o; out = suc i }) .order
+    go true = refl
+    go false = refl
 
 -- the side is 0 or 1
 side-under : (c : Grid.Vertex) (o : List ℕ) (i : ℕ) → placeAt c o i .side < 2

@@ -13,7 +13,7 @@ use Rattle.paper.specs.Job.{allFrom}
 use Rattle.paper.proofs.Tests.{all-at}
 use Rattle.bits.specs.Axes.{Axes}
 use Rattle.bits.proofs.EachDimension.{each-axes}
-use Rattle.orders.specs.Table.{firstRow, digitAt, orderAt, axisAt, vertexMask, InTable, AxisIs, MasksAre}
+use Rattle.orders.specs.Table.{firstRow, digitAt, orderAt, orderWord, axisAt, vertexMask, InTable, AxisIs, MasksAre}
 use Rattle.orders.proofs.Tested.{passes}
 
 -- ---- orders
@@ -73,6 +73,10 @@ rowInside n row k = ltb (firstRow n + row) 32
 sameEntry : ℕ → ℕ → ℕ → Bool
 sameEntry n row k = leb n k || eqb (digitAt (getD ordersArray (firstRow n + row) 0) (k + 1)) (axisAt n row k)
 
+-- an entry of the array is the digits of the row's order
+sameWord : ℕ → ℕ → ℕ → Bool
+sameWord n row k = eqb (getD ordersArray (firstRow n + row) 0) (orderWord (orderAt n row))
+
 -- the masks of vertices 0 to 4 are those of the order
 rightDigits : ℕ → ℕ → ℕ → Bool
 rightDigits n row k = allFrom (λ k. eqb (digitAt (getD masksArray (firstRow n + row) 0) k) (vertexMask (orderAt n row) k)) 0 5
@@ -88,6 +92,12 @@ module _ (n row : ℕ) (h : InTable n row) {f : ℕ} (is-first : f ≡ firstRow 
       rw is-first
       (eqb-true (digitAt (getD ordersArray (firstRow n + row) 0) (k + 1)) (axisAt n row k)
       (rw (lt-leb n k l) at (passes sameEntry refl refl refl n row k h (omega arith))))
+
+  pub word-is : getD ordersArray (f + row) 0 ≡ orderWord (orderAt n row)
+  unfolding sameWord firstRow orderWord orderAt orders allFrom
+  word-is =
+      rw is-first
+      (eqb-true (getD ordersArray (firstRow n + row) 0) (orderWord (orderAt n row)) (passes sameWord refl refl refl n row 0 h (omega arith)))
 
   mask-is : (k : ℕ) → k ≤ 4 → digitAt (getD masksArray (firstRow n + row) 0) k ≡ vertexMask (orderAt n row) k
   unfolding rightDigits firstRow digitAt vertexMask masksFrom orderAt orders allFrom

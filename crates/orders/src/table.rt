@@ -2,11 +2,12 @@
 // Each use of a constant array copies it, so the arrays are short: a row is one number of four hexadecimal digits.
 
 ghost use mathlib.Core.Path.{_≡_};
-ghost use Prim.Native.Nat.{_≤_, _<_};
+ghost use Prim.Native.Nat.{_/_, _≤_, _<_};
 ghost use lib.ListN.{length};
 ghost use Rattle.curves.specs.Grid.{orders};
 ghost use Rattle.bits.specs.Axes.{Axes};
-ghost use Rattle.orders.specs.Table.{firstRow, digitAt, InTable, AxisIs, MasksAre, orderAt, vertexMask};
+ghost use Rattle.orders.specs.Table.{firstRow, digitAt, orderAt, orderWord, blockSize, foundRow, vertexMask};
+ghost use Rattle.orders.specs.Table.{InTable, AxisIs, MasksAre};
 
 // The row at which the orders of n axes begin, which is where those of n - 1 end.
 const FIRST: [u8; 6] = [0, 0, 0, 2, 8, 32];
@@ -120,6 +121,52 @@ pub fn axis(n: usize, row: usize, k: usize) -> u64
     ensures { λ r. ⌜ AxisIs n row k r ⌝ }
 {
     digit(ORDERS[first(n) + row], k + 1)
+}
+
+// An entry of the table of orders as a number.
+fn wide_order(x: u16) -> u64
+    ensures { λ r. ⌜ r ≡ x ⌝ }
+{
+    x as u64
+}
+
+// The order in a row as digits.
+pub fn order(n: usize, row: usize) -> u64
+    requires { ⌜ InTable n row ⌝ }
+    ensures { λ r. ⌜ r ≡ orderWord (orderAt n row) ⌝ }
+{
+    wide_order(ORDERS[first(n) + row])
+}
+
+// The rows that begin with one axis: the orders of the other n - 1.
+fn block_size(n: usize) -> usize
+    requires { ⌜ Axes n ⌝ }
+    ensures { λ r. ⌜ r ≡ blockSize n ⌝ }
+{
+    if n == 4 {
+        return 6;
+    }
+    n - 1
+}
+
+// The row with an order's digits. Rows that begin with the same axis stand together; the last of them is not looked at, since it is
+// what is left. The table is copied once, before the loop.
+pub fn find_row(n: usize, order: u64) -> usize
+    requires { ⌜ (Axes n) × (order / 4096 < n) ⌝ }
+    ensures { λ r. ⌜ r ≡ foundRow n order ⌝ }
+{
+    let size = block_size(n);
+    let begin = first(n);
+    let table = ORDERS;
+    let mut row = (order / 4096) as usize * size;
+    let last = row + size - 1;
+    while row < last {
+        if wide_order(table[begin + row]) == order {
+            return row;
+        }
+        row += 1;
+    }
+    row
 }
 
 // The masks of a row's vertices as digits, for a caller that wants more than one.

@@ -5,18 +5,26 @@ use mathlib.Core.Path.{_≡_, sym, ap, subst, _∙_}
 use mathlib.Core.List.{List}
 use lib.IntN.{ℤ}
 use lib.ListN.{length}
+use Rattle.curves.specs.Grid.{Place, facetVertices}
 use Rattle.curves.specs.Walk.{trace}
+use Rattle.curves.specs.Step.{columns}
 use Rattle.paper.specs.Job.{dimension, body, openRefusal}
-use Rattle.paper.specs.Operations.{refused, answered, unless, stepIn, startOf, traceRefusal, onSameFacet, traced, spaceOf, verdictAndCount, bufferAfter}
+use Rattle.paper.specs.Values.{fieldOf}
+use Rattle.paper.specs.Operations.{facetOf, refused, answered, unless, stepIn, startOf, traceRefusal, onSameFacet, traced, spaceOf, verdictAndCount, bufferAfter}
 use Rattle.paper.specs.Answers.{tracedAs}
 use Rattle.paper.specs.declared.Traced as Traced
 use Rattle.paper.proofs.Refusals.{unless-refused, first-refuses}
 use Rattle.paper.proofs.StartTraceable.{start-traced}
+use Rattle.places.specs.Held.{facetAs, placeAs}
+use Rattle.places.specs.declared.HeldPlace.{HeldPlace}
 use Rattle.job.specs.OpenJob.{JobOf}
 use Rattle.judge.specs.declared.JobPlace.{JobPlace}
 use Rattle.judge.specs.Located.{Crosses}
 use Rattle.judge.proofs.StartRefusal.{start-refusal}
-use Rattle.step.proofs.CrossingHeld.{found-place}
+use Rattle.step.proofs.CrossingHeld.{found-place, found-held}
+use Rattle.carried.specs.declared.Entered.{Entered}
+use Rattle.carried.specs.Carries.{Carries, Enters}
+use Rattle.carried.proofs.CarriedStep.{enters-carries}
 use Rattle.trace.specs.Visited.{traceOver, Walks}
 
 -- what Trace says of an answer, and of the buffer
@@ -51,8 +59,17 @@ module _ {n : ℕ} {s : List ℕ} {r : JobPlace} {cells : List ℤ} (j : JobOf n
         start-traced s (start-refusal s ∙ sym (c .number) ∙ none) (length b / (3 * dimension s))
         ∙ (λ i. answered (trace (stepIn s) onSameFacet (sym (found-place j c none) i) (length b / (3 * sym (j .dimension) i))))
 
-    pub start-answered : {b after : List ℕ} {a : Traced.Traced} → Walks s n (r .place) b after a → Answers s b after a
-    start-answered {b} w = record {
-      answer = w .answer ∙ sym (ap verdictAndCount (whole b));
-      buffer = w .buffer ∙ sym (ap (λ t. bufferAfter t b) (whole b));
-    }
+    -- what is carried at the start
+    pub start-carries : {after : List ℤ} {e : Entered} → Enters n (r .place) cells after e → Carries s n e after
+    unfolding placeAs facetAs facetOf
+    start-carries g =
+        enters-carries (found-held j c none)
+        (c .finds none .columns ∙ ap (λ (p : Place). columns (fieldOf s) (facetVertices (p .facet))) (sym (found-place j c none))) g
+
+    pub start-answered : {q : HeldPlace} {b after : List ℕ} {a : Traced.Traced} → q ≡ r .place → Walks s n q b after a → Answers s b after a
+    start-answered {b = b} {after} {a} is walked =
+        let w = subst (λ q. Walks s n q b after a) is walked in
+        record {
+          answer = w .answer ∙ sym (ap verdictAndCount (whole b));
+          buffer = w .buffer ∙ sym (ap (λ t. bufferAfter t b) (whole b));
+        }

@@ -7,6 +7,7 @@ use native.Mathlib.Omega.{arith}
 use mathlib.Core.Path.{_≡_, refl, sym, ap, subst, _∙_}
 use mathlib.Core.Bool.{true, false}
 use mathlib.Core.List.{List, [], _∷_, _++_, append-nil, append-assoc}
+use lib.IntN.{ℤ}
 use lib.ListN.{length, drop, length-append}
 use lib.Seq.{sets, length-sets, sets-eq}
 use Rattle.curves.specs.Grid.{Place}
@@ -25,30 +26,33 @@ use Rattle.places.specs.declared.HeldPlace.{HeldPlace}
 use Rattle.places.proofs.PlaceStored.{sets-append, encodePlaces-snoc}
 use Rattle.step.specs.Held.{Held}
 use Rattle.step.specs.Ahead.{Leads}
+use Rattle.carried.specs.declared.Entered.{Entered}
+use Rattle.carried.specs.Carries.{Carries}
 use Rattle.trace.specs.declared.walks.Visited as Code
 use Rattle.trace.specs.Visited.{GoesOn, VisitedIs, Visits, traceOver, Walks}
 
 -- ---- one turn
 
 module _ (s : List ℕ) (n : ℕ) (start x : Place) where
-  pub ends-at-edge : stepIn s x ≡ stop edge → VisitedIs s n start x (Code.the-variants.Over Verdict.the-variants.Edge)
+  pub ends-at-edge : (cells : List ℤ) → stepIn s x ≡ stop edge → VisitedIs s n start x (Code.the-variants.Over Verdict.the-variants.Edge) cells
   unfolding afterStep verdictAs
-  ends-at-edge e rest = ap (afterStep onSameFacet rest start x) e
+  ends-at-edge cells e rest = ap (afterStep onSameFacet rest start x) e
 
-  pub ends-at-limit : stepIn s x ≡ stop limit → VisitedIs s n start x (Code.the-variants.Over Verdict.the-variants.Limit)
+  pub ends-at-limit : (cells : List ℤ) → stepIn s x ≡ stop limit → VisitedIs s n start x (Code.the-variants.Over Verdict.the-variants.Limit) cells
   unfolding afterStep verdictAs
-  ends-at-limit e rest = ap (afterStep onSameFacet rest start x) e
+  ends-at-limit cells e rest = ap (afterStep onSameFacet rest start x) e
 
-  pub ends-in-loop : {q : HeldPlace} → Leads s n x q → onSameFacet (placeAs n q) start ≡ true
-      → VisitedIs s n start x (Code.the-variants.Over Verdict.the-variants.Loop)
+  pub ends-in-loop : {q : HeldPlace} (cells : List ℤ) → Leads s n x q → onSameFacet (placeAs n q) start ≡ true
+      → VisitedIs s n start x (Code.the-variants.Over Verdict.the-variants.Loop) cells
   unfolding afterStep afterTest verdictAs
-  ends-in-loop {q} l e rest = ap (afterStep onSameFacet rest start x) (l .is) ∙ ap (afterTest rest x (placeAs n q)) e
+  ends-in-loop {q} cells l e rest = ap (afterStep onSameFacet rest start x) (l .is) ∙ ap (afterTest rest x (placeAs n q)) e
 
-  pub goes-on : {q : HeldPlace} → Leads s n x q → onSameFacet (placeAs n q) start ≡ false → GoesOn s n start x q
+  pub goes-on : {q : Entered} {cells : List ℤ} → Leads s n x (q .place) × Carries s n q cells → onSameFacet (placeAs n (q .place)) start ≡ false
+      → GoesOn s n start x q cells
   unfolding afterStep afterTest
   goes-on {q} l e = record {
-    is = λ rest. ap (afterStep onSameFacet rest start x) (l .is) ∙ ap (afterTest rest x (placeAs n q)) e;
-    held = l .held;
+    is = λ rest. ap (afterStep onSameFacet rest start x) (l .0 .is) ∙ ap (afterTest rest x (placeAs n (q .place))) e;
+    carries = l .1;
   }
 
 -- ---- the walk
@@ -126,7 +130,8 @@ module _ {s : List ℕ} {n : ℕ} {start : HeldPlace} {before buffer : List ℕ}
       (subst (λ k. k ≤ length before) (sym (u .bytes))
       (le-trans (mul-le-mul-left (3 * n) few) (mul-div-le (length before) (3 * n))))
 
-  module _ (more : count < length before / (3 * n)) {after : List ℕ} {r : Code.Visited} (v : Visits s n start here (count * (3 * n)) buffer after r) where
+  module _ (more : count < length before / (3 * n)) {after : List ℕ} {r : Code.Visited} {cells : List ℤ}
+      (v : Visits s n start here (count * (3 * n)) buffer after r cells) where
     pub after-size : length after ≡ length before
     after-size = ap length (v .buffer) ∙ length-sets buffer (count * (3 * n)) (encodePlace (placeAs n here)) ∙ same-size
 
@@ -171,7 +176,7 @@ module _ {s : List ℕ} {n : ℕ} {start : HeldPlace} {before buffer : List ℕ}
         u .rest ∙ ap (λ k. joined (u .so-far) (traceFrom (stepIn s) onSameFacet (placeAs n start) k (placeAs n here))) one
 
     -- the verdict
-    pub is-over : {w : Verdict.Verdict} → VisitedIs s n (placeAs n start) (placeAs n here) (Code.the-variants.Over w)
+    pub is-over : {w : Verdict.Verdict} → VisitedIs s n (placeAs n start) (placeAs n here) (Code.the-variants.Over w) cells
         → Walks s n start before after (Traced.the-variants.Listed w (count + 1))
     unfolding longer
     is-over {w} e =
@@ -179,7 +184,8 @@ module _ {s : List ℕ} {n : ℕ} {start : HeldPlace} {before buffer : List ℕ}
         longer-counted longer-stored longer-fits
 
     -- the next place
-    pub stays-under-way : {q : HeldPlace} → GoesOn s n (placeAs n start) (placeAs n here) q → UnderWay s n start before after q (count + 1)
+    pub stays-under-way : {q : Entered} → GoesOn s n (placeAs n start) (placeAs n here) q cells
+        → UnderWay s n start before after (q .place) (count + 1)
     unfolding longer
     stays-under-way {q} g = record {
       so-far = longer;
@@ -190,10 +196,10 @@ module _ {s : List ℕ} {n : ℕ} {start : HeldPlace} {before buffer : List ℕ}
           turned
           ∙ ap (joined (u .so-far)) (g .is (λ y. traceFrom (stepIn s) onSameFacet (placeAs n start) (u .left - 1) y))
           ∙ (λ i. record {
-            verdict = traceFrom (stepIn s) onSameFacet (placeAs n start) (u .left - 1) (placeAs n q) .verdict;
-            places = sym (append-assoc (u .so-far) (placeAs n here ∷ []) (traceFrom (stepIn s) onSameFacet (placeAs n start) (u .left - 1) (placeAs n q) .places)) i;
+            verdict = traceFrom (stepIn s) onSameFacet (placeAs n start) (u .left - 1) (placeAs n (q .place)) .verdict;
+            places = sym (append-assoc (u .so-far) (placeAs n here ∷ []) (traceFrom (stepIn s) onSameFacet (placeAs n start) (u .left - 1) (placeAs n (q .place)) .places)) i;
           });
       bytes = longer-bytes;
       stored = longer-stored;
-      held = g .held;
+      held = g .carries .held;
     }

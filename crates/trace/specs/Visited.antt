@@ -3,6 +3,7 @@
 use Prim.Native.Nat.{ℕ, _*_, _/_}
 use mathlib.Core.Path.{_≡_}
 use mathlib.Core.List.{List}
+use lib.IntN.{ℤ}
 use lib.ListN.{length}
 use lib.Seq.{sets}
 use Rattle.curves.specs.Grid.{Place}
@@ -14,24 +15,25 @@ use Rattle.paper.specs.Answers.{verdictAs, tracedAs}
 use Rattle.paper.specs.declared.Traced.{Traced}
 use Rattle.places.specs.Held.{placeAs}
 use Rattle.places.specs.declared.HeldPlace.{HeldPlace}
-use Rattle.step.specs.Held.{Held}
+use Rattle.carried.specs.declared.Entered.{Entered}
+use Rattle.carried.specs.Carries.{Carries}
 use Rattle.trace.specs.declared.walks.Visited as Code
 
--- the trace goes on from the place that is held
-pub record GoesOn (s : List ℕ) (n : ℕ) (start x : Place) (q : HeldPlace) : Type 0 where
-  pub is : (rest : Place → Trace Place Stop) → afterStep onSameFacet rest start x (stepIn s x) ≡ written x (rest (placeAs n q))
-  pub held : Held s n q
+-- the trace goes on from the place that is held, and the cells hold what is carried there
+pub record GoesOn (s : List ℕ) (n : ℕ) (start x : Place) (q : Entered) (cells : List ℤ) : Type 0 where
+  pub is : (rest : Place → Trace Place Stop) → afterStep onSameFacet rest start x (stepIn s x) ≡ written x (rest (placeAs n (q .place)))
+  pub carries : Carries s n q cells
 
 -- the trace ends behind x with the verdict, or goes on
-abbrev pub VisitedIs : List ℕ → ℕ → Place → Place → Code.Visited → Type 0
-VisitedIs s n start x (Code.the-variants.Over v) =
+abbrev pub VisitedIs : List ℕ → ℕ → Place → Place → Code.Visited → List ℤ → Type 0
+VisitedIs s n start x (Code.the-variants.Over v) cells =
     (rest : Place → Trace Place Stop) → afterStep onSameFacet rest start x (stepIn s x) ≡ ended x (verdictAs v)
-VisitedIs s n start x (Code.the-variants.Next q) = GoesOn s n start x q
+VisitedIs s n start x (Code.the-variants.Next q) cells = GoesOn s n start x q cells
 
 -- the place's bytes are stored, and the answer says how the trace goes on
-pub record Visits (s : List ℕ) (n : ℕ) (start here : HeldPlace) (at : ℕ) (before after : List ℕ) (r : Code.Visited) : Type 0 where
+pub record Visits (s : List ℕ) (n : ℕ) (start here : HeldPlace) (at : ℕ) (before after : List ℕ) (r : Code.Visited) (cells : List ℤ) : Type 0 where
   pub buffer : after ≡ sets before at (encodePlace (placeAs n here))
-  pub answer : VisitedIs s n (placeAs n start) (placeAs n here) r
+  pub answer : VisitedIs s n (placeAs n start) (placeAs n here) r cells
 
 -- the trace from a place with the space that the buffer has
 unfoldable pub traceOver : List ℕ → ℕ → HeldPlace → List ℕ → Trace Place Stop

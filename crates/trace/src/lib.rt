@@ -19,8 +19,8 @@ pub fn trace_in(job: &[u8], n: usize, buffer: &mut [u8]) -> Traced
     if here.refusal != 0 {
         return Traced::Refused(here.refusal);
     }
-    let start = here.place;
-    walks::walk(job, n, start, buffer)
+    let start = carried::enter(n, here.place, &mut cells);
+    walks::walk(job, n, start, &mut cells, buffer)
 }
 
 // Trace: the refusal's number, or the verdict and the count of the places written to the buffer from its front on. A refusal

@@ -3,17 +3,18 @@
 ghost use Prim.Native.Nat.{_+_, _*_, _≤_};
 ghost use lib.ListN.{length};
 ghost use Rattle.step.specs.Held.{Held};
+ghost use Rattle.carried.specs.Carries.{Carries};
 ghost use Rattle.trace.specs.Visited.{Visits, Walks};
+use carried::Ahead;
+use carried::Entered;
 use paper::Traced;
 use paper::Verdict;
 use places::HeldPlace;
-use step::ahead;
-use step::ahead::Ahead;
 
 // After a place is written: the verdict, or the place to be written next.
 pub enum Visited {
     Over(Verdict),
-    Next(HeldPlace),
+    Next(Entered),
 }
 
 // Writes a place, and looks ahead: edge or limit, then loop, else the next place.
@@ -21,20 +22,21 @@ pub fn visit(
     job: &[u8],
     n: usize,
     start: HeldPlace,
-    here: HeldPlace,
+    here: Entered,
     at: usize,
+    cells: &mut [i64; 15],
     buffer: &mut [u8],
 ) -> Visited
-    requires { ⌜ (Held (now job) n start) × ((Held (now job) n here) × (at + 3 * n ≤ length (now buffer))) ⌝ }
-    ensures { λ r. ⌜ Visits (now (job .entry)) n start here at (now (buffer .entry)) (now (buffer .exit)) r ⌝ }
+    requires { ⌜ (Held (now job) n start) × ((Carries (now job) n here (now cells)) × (at + 3 * n ≤ length (now buffer))) ⌝ }
+    ensures { λ r. ⌜ Visits (now (job .entry)) n start (here .place) at (now (buffer .entry)) (now (buffer .exit)) r (now (cells .exit)) ⌝ }
 {
-    places::write_place(buffer, at, n, here);
-    let ahead = ahead::onward(job, n, here);
+    places::write_place(buffer, at, n, here.place);
+    let ahead = carried::onward(job, n, here, cells);
     match ahead {
         Ahead::Edge => Visited::Over(Verdict::Edge),
         Ahead::Limit => Visited::Over(Verdict::Limit),
         Ahead::Next(next) => {
-            if places::same_facet(n, next, start) {
+            if places::same_facet(n, next.place, start) {
                 return Visited::Over(Verdict::Loop);
             }
             Visited::Next(next)
@@ -42,17 +44,24 @@ pub fn visit(
     }
 }
 
-// The trace from a place, with the space that the buffer has.
-pub fn walk(job: &[u8], n: usize, start: HeldPlace, buffer: &mut [u8]) -> Traced
-    requires { ⌜ Held (now job) n start ⌝ }
-    ensures { λ r. ⌜ Walks (now (job .entry)) n start (now (buffer .entry)) (now (buffer .exit)) r ⌝ }
+// The trace from a place with what is carried there, with the space that the buffer has.
+pub fn walk(
+    job: &[u8],
+    n: usize,
+    start: Entered,
+    cells: &mut [i64; 15],
+    buffer: &mut [u8],
+) -> Traced
+    requires { ⌜ Carries (now job) n start (now cells) ⌝ }
+    ensures { λ r. ⌜ Walks (now (job .entry)) n (start .place) (now (buffer .entry)) (now (buffer .exit)) r ⌝ }
 {
     let size = 3 * n;
     let space = buffer.len() / size;
+    let first = start.place;
     let mut here = start;
     let mut count: usize = 0;
     while count < space {
-        let after = visit(job, n, start, here, count * size, buffer);
+        let after = visit(job, n, first, here, count * size, cells, buffer);
         count += 1;
         match after {
             Visited::Over(verdict) => {

@@ -2,7 +2,7 @@
 use borrow.Author.Needs.{needs}
 use mathlib.Core.Path.{sym, subst, _∙_}
 use Rattle.places.specs.Held.{placeAs}
-use Rattle.step.specs.Ahead.{AheadIs}
+use Rattle.carried.specs.Carries.{AheadIs}
 use Rattle.job.proofs.OpenJob.{job-axes}
 use Rattle.step.proofs.HeldPlaces.{held-fits}
 use Rattle.trace.proofs.UnderWay.{ends-at-edge, ends-at-limit, ends-in-loop, goes-on}
@@ -10,7 +10,7 @@ use Rattle.trace.proofs.walks.visit.Statement.{statement}
 use Rattle.trace.proofs.walks.visit.Tie as tie
 
 write-place-requires : tie.Need-write-place-requires
-write-place-requires c κs = (held-fits (c .before .before .before .pre .1 .0), c .before .before .before .pre .1 .1)
+write-place-requires c κs = (held-fits (c .before .before .before .pre .1 .0 .held), c .before .before .before .pre .1 .1)
 
 onward-requires : tie.Need-onward-requires
 onward-requires c κs = search needs
@@ -25,19 +25,20 @@ enum-known-ahead : tie.Need-enum-known-ahead
 enum-known-ahead c = search needs
 
 same-facet-requires : tie.Need-same-facet-requires
-same-facet-requires c κs = job-axes (c .before .before .before .before .before .before .before .before .before .before .pre .0 .job)
+same-facet-requires c κs = job-axes (c .before .before .before .before .before .before .before .before .before .before .before .pre .0 .job)
 
 same-length : tie.Need-same-length
 same-length c = search needs
 
 returns : tie.Need-returns
 returns c =
-    let a = c .before .before .before .before .before .before .before .before .before .before .before .before .args in
-    let x = placeAs (a .n) (a .here) in
-    let l = subst (AheadIs (a .job .now) (a .n) x) (c .before .before .before .ahead .given .1) (c .before .before .before .before .before .onward .ensures) in
+    let a = c .before .before .before .before .before .before .before .before .before .before .before .before .before .args in
+    let x = placeAs (a .n) (a .here .place) in
+    let after = c .before .before .before .before .before .onward .last .1 .1 .1 .0 in
+    let l = subst (λ r. AheadIs (a .job .now) (a .n) x r after) (c .before .before .before .ahead .given .1) (c .before .before .before .before .before .onward .ensures) in
     record {
-      buffer = c .before .before .before .before .before .before .before .before .write-place .ensures;
-      answer = ends-in-loop (a .job .now) (a .n) (placeAs (a .n) (a .start)) x l (sym (c .before .same-facet .ensures) ∙ c .if1 .taken);
+      buffer = c .before .before .before .before .before .before .before .before .before .write-place .ensures;
+      answer = ends-in-loop (a .job .now) (a .n) (placeAs (a .n) (a .start)) x after (l .0) (sym (c .before .same-facet .ensures) ∙ c .if1 .taken);
     }
 
 same-length-2 : tie.Need-same-length-2
@@ -45,12 +46,13 @@ same-length-2 c = search needs
 
 returns-2 : tie.Need-returns-2
 returns-2 c =
-    let a = c .before .before .before .before .before .before .before .before .before .args in
-    let x = placeAs (a .n) (a .here) in
-    let l = subst (AheadIs (a .job .now) (a .n) x) (c .enum-told .given .1) (c .before .before .onward .ensures) in
+    let a = c .before .before .before .before .before .before .before .before .before .before .args in
+    let x = placeAs (a .n) (a .here .place) in
+    let after = c .before .before .onward .last .1 .1 .1 .0 in
+    let l = subst (λ r. AheadIs (a .job .now) (a .n) x r after) (c .enum-told .given .1) (c .before .before .onward .ensures) in
     record {
-      buffer = c .before .before .before .before .before .write-place .ensures;
-      answer = ends-at-edge (a .job .now) (a .n) (placeAs (a .n) (a .start)) x l;
+      buffer = c .before .before .before .before .before .before .write-place .ensures;
+      answer = ends-at-edge (a .job .now) (a .n) (placeAs (a .n) (a .start)) x after l;
     }
 
 same-length-3 : tie.Need-same-length-3
@@ -58,12 +60,13 @@ same-length-3 c = search needs
 
 returns-3 : tie.Need-returns-3
 returns-3 c =
-    let a = c .before .before .before .before .before .before .before .before .before .args in
-    let x = placeAs (a .n) (a .here) in
-    let l = subst (AheadIs (a .job .now) (a .n) x) (c .enum-told2 .given .1) (c .before .before .onward .ensures) in
+    let a = c .before .before .before .before .before .before .before .before .before .before .args in
+    let x = placeAs (a .n) (a .here .place) in
+    let after = c .before .before .onward .last .1 .1 .1 .0 in
+    let l = subst (λ r. AheadIs (a .job .now) (a .n) x r after) (c .enum-told2 .given .1) (c .before .before .onward .ensures) in
     record {
-      buffer = c .before .before .before .before .before .write-place .ensures;
-      answer = ends-at-limit (a .job .now) (a .n) (placeAs (a .n) (a .start)) x l;
+      buffer = c .before .before .before .before .before .before .write-place .ensures;
+      answer = ends-at-limit (a .job .now) (a .n) (placeAs (a .n) (a .start)) x after l;
     }
 
 same-length-4 : tie.Need-same-length-4
@@ -71,11 +74,12 @@ same-length-4 c = search needs
 
 returns-4 : tie.Need-returns-4
 returns-4 c =
-    let a = c .before .before .before .before .before .before .before .before .before .before .before .before .args in
-    let x = placeAs (a .n) (a .here) in
-    let l = subst (AheadIs (a .job .now) (a .n) x) (c .before .before .before .ahead .given .1) (c .before .before .before .before .before .onward .ensures) in
+    let a = c .before .before .before .before .before .before .before .before .before .before .before .before .before .args in
+    let x = placeAs (a .n) (a .here .place) in
+    let after = c .before .before .before .before .before .onward .last .1 .1 .1 .0 in
+    let l = subst (λ r. AheadIs (a .job .now) (a .n) x r after) (c .before .before .before .ahead .given .1) (c .before .before .before .before .before .onward .ensures) in
     record {
-      buffer = c .before .before .before .before .before .before .before .before .write-place .ensures;
+      buffer = c .before .before .before .before .before .before .before .before .before .write-place .ensures;
       answer = goes-on (a .job .now) (a .n) (placeAs (a .n) (a .start)) x l (sym (c .before .same-facet .ensures) ∙ c .if1 .left);
     }
 

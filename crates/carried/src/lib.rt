@@ -1,0 +1,101 @@
+// A step by what is carried: the values at the facet's vertices are known, and only the new vertex of the simplex is summed. Nothing is
+// written here, so that a walk without a buffer takes the same step.
+
+ghost use mathlib.Core.Path.{_≡_};
+ghost use mathlib.Core.Bool.{true};
+ghost use Prim.Native.Nat.{_≤_};
+ghost use Rattle.exact.specs.Crossed.{crossed};
+ghost use Rattle.curves.specs.Grid.{placeOk};
+ghost use Rattle.paper.specs.Limits.{dimensionOk};
+ghost use Rattle.places.specs.Held.{vertexAs, placeAs, VertexSize};
+ghost use Rattle.values.specs.Moves.{moveLimit};
+ghost use Rattle.facets.specs.Cells.{Cells, facetColumns};
+ghost use Rattle.orders.specs.Table.{InTable};
+ghost use Rattle.carried.specs.Carries.{newVertexAt, Enters, Beyond, Carries, AheadIs};
+use columns::field;
+use facets::determinants;
+use orders::neighbour;
+use orders::table;
+use places::HeldPlace;
+use places::Vertex;
+use simplices::corners;
+use simplices::search;
+use values::lattice;
+
+// A place with the simplex on its side: the row of its order, the vertex that the facet leaves out, and whether the determinant of the
+// facet is above 0.
+pub struct Entered {
+    pub place: HeldPlace,
+    pub row: usize,
+    pub out: usize,
+    pub plus: bool,
+}
+
+// What lies ahead of a place: a vertex outside the box, a value that is not readable, or the next place.
+pub enum Ahead {
+    Edge,
+    Limit,
+    Next(Entered),
+}
+
+// The simplex on the side of a crossed place. The cells hold the facet's columns; they go where the simplex has its vertices.
+pub fn enter(n: usize, p: HeldPlace, cells: &mut [i64; 15]) -> Entered
+    requires { ⌜ (dimensionOk n ≡ true) × (placeOk n (placeAs n p) ≡ true) ⌝ }
+    requires { ⌜ (Cells n (now cells)) × (crossed n (facetColumns n (now cells) n) ≡ true) ⌝ }
+    ensures { λ r. ⌜ Enters n p (now (cells .entry)) (now (cells .exit)) r ⌝ }
+{
+    let found = search::find(n, p);
+    let row = found.row;
+    let out = found.out;
+    let plus = determinants::determinant(n, cells, n) > 0;
+    moves::make_room(n, cells, out);
+    Entered {
+        place: p,
+        row,
+        out,
+        plus,
+    }
+}
+
+// The vertex that a row's simplex has and its facet does not.
+fn new_vertex(n: usize, corner: Vertex, row: usize, out: usize) -> Vertex
+    requires { ⌜ (InTable n row) × ((out ≤ n) × (VertexSize moveLimit corner)) ⌝ }
+    ensures { λ r. ⌜ vertexAs n r ≡ newVertexAt n corner row out ⌝ }
+{
+    lattice::shifted(corner, table::vertex_mask(n, row, out))
+}
+
+// The place on the other side of the facet without vertex e, with the simplex there.
+fn beyond(n: usize, corner: Vertex, row: usize, out: usize, plus: bool, e: usize) -> Entered
+    requires { ⌜ (InTable n row) × ((out ≤ n) × ((e ≤ n) × (VertexSize moveLimit corner))) ⌝ }
+    ensures { λ r. ⌜ Beyond n corner row out plus e r ⌝ }
+{
+    Entered {
+        place: corners::next(n, corner, row, e),
+        row: neighbour::neighbour(n, row, e),
+        out: moves::new_index(n, e),
+        plus: plus == ((out + e) % 2 == 1),
+    }
+}
+
+// Edge if the new vertex lies outside the box, limit if it is in the box and not readable, else the place of the other crossed facet, its
+// side leading onward, and what is carried there.
+pub fn onward(job: &[u8], n: usize, here: Entered, cells: &mut [i64; 15]) -> Ahead
+    requires { ⌜ Carries (now job) n here (now cells) ⌝ }
+    ensures { λ r. ⌜ AheadIs (now (job .entry)) n (placeAs n (here .place)) r (now (cells .exit)) ⌝ }
+{
+    let row = here.row;
+    let out = here.out;
+    let plus = here.plus;
+    let corner = corners::corner_of(n, here.place, row, out);
+    let v = new_vertex(n, corner, row, out);
+    if !field::vertex_inside(job, n, v) {
+        return Ahead::Edge;
+    }
+    if !field::put_values(job, n, v, out, cells) {
+        return Ahead::Limit;
+    }
+    let exit = compared::exit(n, cells, plus, out);
+    moves::move_columns(n, cells, exit);
+    Ahead::Next(beyond(n, corner, row, out, plus, exit))
+}
