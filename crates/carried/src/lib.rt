@@ -3,14 +3,14 @@
 
 ghost use mathlib.Core.Path.{_≡_};
 ghost use mathlib.Core.Bool.{true};
-ghost use Prim.Native.Nat.{_≤_};
+ghost use Prim.Native.Nat.{ℕ, _≤_};
 ghost use Rattle.exact.specs.Crossed.{crossed};
 ghost use Rattle.curves.specs.Grid.{placeOk};
 ghost use Rattle.paper.specs.Limits.{dimensionOk};
 ghost use Rattle.places.specs.Held.{vertexAs, placeAs, VertexSize};
 ghost use Rattle.values.specs.Moves.{moveLimit};
 ghost use Rattle.facets.specs.Cells.{Cells, facetColumns};
-ghost use Rattle.orders.specs.Table.{InTable};
+ghost use Rattle.orders.specs.Table.{InTable, MasksAre};
 ghost use Rattle.carried.specs.Carries.{newVertexAt, Enters, Beyond, Carries, AheadIs};
 use columns::field;
 use facets::determinants;
@@ -57,24 +57,34 @@ pub fn enter(n: usize, p: HeldPlace, cells: &mut [i64; 15]) -> Entered
     }
 }
 
-// The vertex that a row's simplex has and its facet does not.
-fn new_vertex(n: usize, corner: Vertex, row: usize, out: usize) -> Vertex
-    requires { ⌜ (InTable n row) × ((out ≤ n) × (VertexSize moveLimit corner)) ⌝ }
-    ensures { λ r. ⌜ vertexAs n r ≡ newVertexAt n corner row out ⌝ }
+// The vertex that the simplex of a row with these masks has and its facet does not.
+fn new_vertex(corner: Vertex, masks: u16, out: usize) -> Vertex
+    requires { ⌜ (out ≤ 4) × (VertexSize moveLimit corner) ⌝ }
+    ensures { λ r. ⌜ ((n row : ℕ) → InTable n row → MasksAre n row masks → out ≤ n → vertexAs n r ≡ newVertexAt n corner row out) ⌝ }
 {
-    lattice::shifted(corner, table::vertex_mask(n, row, out))
+    lattice::shifted(corner, table::digit(masks, out))
 }
 
 // The place on the other side of the facet without vertex e, with the simplex there.
-fn beyond(n: usize, corner: Vertex, row: usize, out: usize, plus: bool, e: usize) -> Entered
-    requires { ⌜ (InTable n row) × ((out ≤ n) × ((e ≤ n) × (VertexSize moveLimit corner))) ⌝ }
+fn beyond(
+    n: usize,
+    corner: Vertex,
+    row: usize,
+    masks: u16,
+    out: usize,
+    plus: bool,
+    e: usize,
+) -> Entered
+    requires { ⌜ (InTable n row) × (MasksAre n row masks) ⌝ }
+    requires { ⌜ (out ≤ n) × ((e ≤ n) × (VertexSize moveLimit corner)) ⌝ }
     ensures { λ r. ⌜ Beyond n corner row out plus e r ⌝ }
 {
+    let odd = (out + e) % 2 == 1;
     Entered {
-        place: corners::next(n, corner, row, e),
+        place: corners::next(n, corner, masks, e),
         row: neighbour::neighbour(n, row, e),
         out: moves::new_index(n, e),
-        plus: plus == ((out + e) % 2 == 1),
+        plus: plus == odd,
     }
 }
 
@@ -87,8 +97,9 @@ pub fn onward(job: &[u8], n: usize, here: Entered, cells: &mut [i64; 15]) -> Ahe
     let row = here.row;
     let out = here.out;
     let plus = here.plus;
-    let corner = corners::corner_of(n, here.place, row, out);
-    let v = new_vertex(n, corner, row, out);
+    let masks = table::vertex_masks(n, row);
+    let corner = corners::corner_of(here.place, masks, out);
+    let v = new_vertex(corner, masks, out);
     if !field::vertex_inside(job, n, v) {
         return Ahead::Edge;
     }
@@ -97,5 +108,5 @@ pub fn onward(job: &[u8], n: usize, here: Entered, cells: &mut [i64; 15]) -> Ahe
     }
     let exit = compared::exit(n, cells, plus, out);
     moves::move_columns(n, cells, exit);
-    Ahead::Next(beyond(n, corner, row, out, plus, exit))
+    Ahead::Next(beyond(n, corner, row, masks, out, plus, exit))
 }

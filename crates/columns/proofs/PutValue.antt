@@ -30,8 +30,8 @@ module _ (s : List ℕ) (k : ℕ) (v : Vertex) {b : List ℕ} {r : ℤ} (e : b �
   pub value-refused : t ≡ false → ValuePut s n v k at before false before
   value-refused f = record { test = sym f ∙ test-is; put = λ z. absurd (false≢true z); kept = λ z. refl }
 
-  pub value-put : {b : ℕ} {z : ℤ} → t ≡ true → b ≡ bias s → z ≡ valueOf b (back r) → ValuePut s n v k at before true (set before at (back z))
-  value-put {b} {z} f d g =
+  pub value-put : {b : ℕ} {z : ℤ} → t ≡ true → z ≡ valueOf b (back r) → b ≡ bias s → ValuePut s n v k at before true (set before at (back z))
+  value-put {b} {z} f g d =
       let is : z ≡ valueOf (bias s) (rawSum (body s k) v) = g ∙ ap₂ valueOf d sum-is in
       let small : Size sumLimit z = rw g (value-size b (back r) (back-size (is-size i) sum-word)) in
       record { test = sym f ∙ test-is; put = λ u. ap (set before at) (back-is small sum-word ∙ is); kept = λ u. absurd (true≢false u) }

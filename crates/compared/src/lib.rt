@@ -51,7 +51,7 @@ fn pair_above(n: usize, cells: &[i64; 15], q: usize, r: usize) -> bool
     requires { ⌜ (Cells n (now cells)) × ((q < r) × (r ≤ n)) ⌝ }
     ensures { λ z. ⌜ z ≡ above (pairSign n (simplexColumns n (now (cells .entry))) q r) ⌝ }
 {
-    let first = determinants::minor(n, cells, q, r - 1, 0);
+    let first = determinants::leading_minor(n, cells, q, r - 1);
     if first > 0 {
         return true;
     }

@@ -72,6 +72,25 @@ pub fn minor(n: usize, cells: &[i64; 15], out: usize, i: usize, j: usize) -> i64
     three_rows(cells, r, s, t, a, b, c)
 }
 
+// The same for row 0: the determinant of the values alone. A trace compares vertices by it, and with rows that are constants no index of a row
+// is computed.
+pub fn leading_minor(n: usize, cells: &[i64; 15], out: usize, i: usize) -> i64
+    requires { ⌜ Cells n (now cells) ⌝ }
+    requires { ⌜ (out ≤ n) × (i < n) ⌝ }
+    ensures { λ z. ⌜ Is coefficientLimit (det (remove 0 (rowsFrom 0 n)) (remove i (facetColumns n (now (cells .entry)) out))) z ⌝ }
+{
+    let a = skip(out, skip(i, 0));
+    if n == 2 {
+        return entry(cells, 1, a);
+    }
+    let b = skip(out, skip(i, 1));
+    if n == 3 {
+        return two_rows(cells, 1, 2, a, b);
+    }
+    let c = skip(out, skip(i, 2));
+    three_rows(cells, 1, 2, 3, a, b, c)
+}
+
 // The coefficient of power j at vertex i of the facet without vertex `out`: the cofactor.
 pub fn coefficient(n: usize, cells: &[i64; 15], out: usize, i: usize, j: usize) -> i64
     requires { ⌜ Cells n (now cells) ⌝ }

@@ -1,7 +1,7 @@
--- The masks of a row's facet are differences of vertex masks (`masks-are`), no difference falls below 0 (`skip-rises`), and there is none
--- from the n-th on (`no-mask`).
+-- The masks of a row's facet are differences of vertex masks (`masks-are`) and of digits (`mask-of-digits`), no difference falls below 0
+-- (`skip-rises`), and there is none from the n-th on (`no-mask`).
 use Prim.Native.Nat.{ℕ, suc, zero, _+_, _-_, _≤_, _<_}
-use mathlib.Core.Path.{_≡_, refl}
+use mathlib.Core.Path.{_≡_, refl, ap₂}
 use mathlib.Core.Bool.{Bool}
 use mathlib.Core.List.{List, [], _∷_}
 use native.Mathlib.Omega.{arith}
@@ -12,7 +12,7 @@ use Rattle.exact.proofs.Position.{skip-below, skip-above, skip-le}
 use Rattle.curves.specs.Grid.{placeAt, masksFrom, sameMasks, orders}
 use Rattle.curves.proofs.SameFacet.{sameMasks-sound}
 use Rattle.paper.specs.Job.{allFrom}
-use Rattle.orders.specs.Table.{orderAt, vertexMask, InTable}
+use Rattle.orders.specs.Table.{digitAt, orderAt, vertexMask, InTable, MasksAre}
 use Rattle.orders.specs.Facets.{masksAt, facetMask}
 use Rattle.orders.proofs.Tested.{passes}
 use Rattle.orders.proofs.Rows.{row-length}
@@ -48,3 +48,10 @@ module _ (n row out : ℕ) (h : InTable n row) (l : out ≤ n) where
         arith,
         vertexMask-none (orderAt n row) (skip out i) (omega (arith, row-length n row h, skip-above out i (omega arith))),
       )
+
+  -- a mask from the digits of the row's masks
+  pub mask-of-digits :
+      {x base : ℕ} → MasksAre n row x → base ≡ vertexMask (orderAt n row) (skip out 0)
+      → (i : ℕ) → i < 4 → digitAt x (skip out i) - base ≡ facetMask n row out i
+  unfolding facetMask
+  mask-of-digits d b i u = ap₂ (λ v w. v - w) (d .at (skip out i) (skip-le 4 out i (omega (arith, h .axes .high)) u)) b

@@ -8,5 +8,5 @@ pub mod RowVertices
 pub mod VertexMasks
 pub mod FacetMasks
 pub mod FacetSides
-pub mod MovedCorners
 pub mod Anywhere
+pub mod MovedCorners

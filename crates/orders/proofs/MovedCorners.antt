@@ -1,25 +1,29 @@
--- A corner and a facet's lowest vertex as moved vertices, and the coordinates that do not count, which neither changes.
+-- A corner and a facet's lowest vertex as vertices moved by a mask, and the coordinates that do not count, which neither changes.
 use Prim.Native.Nat.{ℕ, suc, zero, _+_, _-_, _<_}
 use mathlib.Core.Path.{_≡_, refl, sym, ap, _∙_, subst}
 use mathlib.Core.Bool.{Bool, true, false}
 use mathlib.Core.List.{List, [], _∷_}
 use native.Mathlib.Omega.{arith}
 use native.Mathlib.Nat.{not-suc-le-zero}
-use lib.IntN.{ℤ, negsuc}
-use lib.ListN.{length, getD, drop}
+use lib.IntN.{ℤ}
+use lib.ListN.{getD, drop}
 use lib.Seq.{getD-take, getD-drop}
 use lib.Dec.{ltb}
 use borrow.Author.Tests.{ltb-true, ltb-false}
-use Rattle.exact.specs.Int.{0ℤ, 1ℤ}
+use Rattle.exact.specs.Int.{0ℤ}
+use Rattle.exact.specs.Minors.{skip}
 use Rattle.exact.specs.Size.{Size}
+use Rattle.curves.specs.Grid.{up, plus, vertices, absent, distinct, masksFrom}
 use Rattle.curves.specs.Grid as Grid
+use Rattle.curves.proofs.Vertices.{plus-zero, vertices-masks}
 use Rattle.places.specs.declared.Vertex.{Vertex}
 use Rattle.places.specs.Held.{vertexAs, VertexSize}
-use Rattle.orders.specs.Table.{orderAt, axisAt, InTable}
-use Rattle.values.specs.Moves.{addOn, Moved}
-use Rattle.values.proofs.Moves.{up-is, down-is, vertex-wider}
+use Rattle.values.specs.Moves.{Shifted, Lowered}
+use Rattle.values.proofs.Moves.{vertex-wider}
+use Rattle.orders.specs.Table.{orderAt, axisAt, vertexMask, InTable}
 use Rattle.orders.specs.Corners.{cornerUnder, lowOver, CornerIs, LowIs}
 use Rattle.orders.proofs.Rows.{axis-under}
+use Rattle.orders.proofs.Anywhere.{low-corner, corner-low}
 
 -- ---- sizes
 
@@ -38,21 +42,15 @@ sized-vertex : {m : ℕ} {v : Vertex} → Sized m (vertexAs 4 v) → VertexSize 
 unfolding vertexAs
 sized-vertex h = record { x = h 0; y = h 1; z = h 2; w = h 3 }
 
--- ---- one axis
-
-drop-addOn : (n a : ℕ) (d : ℤ) (v : Grid.Vertex) → a < n → drop n (addOn a d v) ≡ drop n v
-unfolding addOn
-drop-addOn zero a d v l = absurd (not-suc-le-zero l)
-drop-addOn (suc n) a d [] l = refl
-drop-addOn (suc n) zero d (x ∷ v) l = refl
-drop-addOn (suc n) (suc a) d (x ∷ v) l = drop-addOn n a d v (omega arith)
-
 -- ---- corner and lowest vertex
 
-corner-first : (v : Grid.Vertex) (o : List ℕ) → 0 < length o → cornerUnder v o 0 ≡ addOn (getD o 0 0) (negsuc 0) v
-unfolding cornerUnder
-corner-first v [] l = absurd (not-suc-le-zero l)
-corner-first v (a ∷ o) l = down-is a v
+-- the facet's lowest vertex is the first of the simplex that is not left out
+low-plus : (c : Grid.Vertex) (o : List ℕ) (i : ℕ) → plus c (vertexMask o (skip i 0)) ≡ lowOver c o i
+unfolding lowOver vertexMask masksFrom skip vertices distinct absent
+low-plus c [] zero = plus-zero c
+low-plus c [] (suc i) = plus-zero c
+low-plus c (a ∷ o) zero = ap (λ l. getD l 1 []) (sym (vertices-masks c (a ∷ []) refl))
+low-plus c (a ∷ o) (suc i) = plus-zero c
 
 corner-other : (v : Grid.Vertex) (o : List ℕ) (i : ℕ) → (i ≡ 0 → ⊥) → cornerUnder v o i ≡ v
 unfolding cornerUnder
@@ -60,57 +58,44 @@ corner-other v [] i k = refl
 corner-other v (a ∷ o) zero k = absurd (k refl)
 corner-other v (a ∷ o) (suc i) k = refl
 
-low-first : (v : Grid.Vertex) (o : List ℕ) → 0 < length o → lowOver v o 0 ≡ addOn (getD o 0 0) 1ℤ v
-unfolding lowOver
-low-first v [] l = absurd (not-suc-le-zero l)
-low-first v (a ∷ o) l = up-is a v
-
-low-other : (v : Grid.Vertex) (o : List ℕ) (i : ℕ) → (i ≡ 0 → ⊥) → lowOver v o i ≡ v
-unfolding lowOver
-low-other v [] i k = refl
-low-other v (a ∷ o) zero k = absurd (k refl)
-low-other v (a ∷ o) (suc i) k = refl
-
 module _ (v : Vertex) (o : List ℕ) (i : ℕ) where
-  pub corner-moved : (r : Vertex) (a : ℕ) → 0 < length o → i ≡ 0 → a ≡ getD o 0 0 → Moved v a (negsuc 0) r → CornerIs v o i r
-  corner-moved r a l z e h =
+  pub low-shifted : {m : ℕ} {r : Vertex} → m ≡ vertexMask o (skip i 0) → Shifted v m r → LowIs v o i r
+  low-shifted e h =
+      record { is = λ n. h .is n ∙ ap (plus (vertexAs n v)) e ∙ low-plus (vertexAs n v) o i; size = h .size }
+
+  -- without vertex 0 the corner is one below the facet's lowest vertex, vertex 1
+  pub corner-lowered : {m : ℕ} {r : Vertex} → i ≡ 0 → m ≡ vertexMask o 1 → Lowered v m r → CornerIs v o i r
+  unfolding skip
+  corner-lowered {m} {r} z e h =
+      let mask : m ≡ vertexMask o (skip i 0) = e ∙ ap (λ k. vertexMask o (skip k 0)) (sym z) in
       record {
         is =
             λ n.
-            h .is n ∙ ap (λ b. addOn b (negsuc 0) (vertexAs n v)) e ∙ sym (corner-first (vertexAs n v) o l)
-            ∙ ap (cornerUnder (vertexAs n v) o) (sym z);
+            sym (corner-low (vertexAs n r) o i)
+            ∙ ap (λ u. cornerUnder u o i) (sym (h .is n ∙ ap (plus (vertexAs n r)) mask ∙ low-plus (vertexAs n r) o i));
         size = h .size;
       }
 
   pub corner-same : (i ≡ 0 → ⊥) → CornerIs v o i v
   corner-same k = record { is = λ n. sym (corner-other (vertexAs n v) o i k); size = λ m s. vertex-wider s (omega arith) }
 
-  pub low-moved : (r : Vertex) (a : ℕ) → 0 < length o → i ≡ 0 → a ≡ getD o 0 0 → Moved v a 1ℤ r → LowIs v o i r
-  low-moved r a l z e h =
-      record {
-        is =
-            λ n.
-            h .is n ∙ ap (λ b. addOn b 1ℤ (vertexAs n v)) e ∙ sym (low-first (vertexAs n v) o l)
-            ∙ ap (lowOver (vertexAs n v) o) (sym z);
-        size = h .size;
-      }
-
-  pub low-same : (i ≡ 0 → ⊥) → LowIs v o i v
-  low-same k = record { is = λ n. sym (low-other (vertexAs n v) o i k); size = λ m s. vertex-wider s (omega arith) }
-
 -- ---- the coordinates that do not count
 
-drop-corner : (n : ℕ) (v : Grid.Vertex) (o : List ℕ) (i : ℕ) → getD o 0 0 < n → drop n (cornerUnder v o i) ≡ drop n v
-unfolding cornerUnder
-drop-corner n v [] i l = refl
-drop-corner n v (a ∷ o) zero l = ap (drop n) (down-is a v) ∙ drop-addOn n a (negsuc 0) v l
-drop-corner n v (a ∷ o) (suc i) l = refl
+drop-up : (n a : ℕ) (v : Grid.Vertex) → a < n → drop n (up a v) ≡ drop n v
+unfolding up
+drop-up zero a v l = absurd (not-suc-le-zero l)
+drop-up (suc n) a [] l = refl
+drop-up (suc n) zero (x ∷ v) l = refl
+drop-up (suc n) (suc a) (x ∷ v) l = drop-up n a v (omega arith)
 
 drop-low : (n : ℕ) (v : Grid.Vertex) (o : List ℕ) (i : ℕ) → getD o 0 0 < n → drop n (lowOver v o i) ≡ drop n v
 unfolding lowOver
 drop-low n v [] i l = refl
-drop-low n v (a ∷ o) zero l = ap (drop n) (up-is a v) ∙ drop-addOn n a 1ℤ v l
+drop-low n v (a ∷ o) zero l = drop-up n a v l
 drop-low n v (a ∷ o) (suc i) l = refl
+
+drop-corner : (n : ℕ) (v : Grid.Vertex) (o : List ℕ) (i : ℕ) → getD o 0 0 < n → drop n (cornerUnder v o i) ≡ drop n v
+drop-corner n v o i l = sym (drop-low n (cornerUnder v o i) o i l) ∙ ap (drop n) (low-corner v o i)
 
 module _ (n row : ℕ) (h : InTable n row) (v : Vertex) (i : ℕ) (r : Vertex) where
   first-under : getD (orderAt n row) 0 0 < n

@@ -1,19 +1,19 @@
 -- Every row of the table is an order of its axes, and the constant arrays of the code have the table's entries and the masks of its vertices.
 use Prim.Native.Nat.{ℕ, _+_, _≤_, _<_}
 use mathlib.Core.Path.{_≡_, refl}
-use mathlib.Core.Bool.{Bool, true, _||_}
+use mathlib.Core.Bool.{Bool, true}
 use mathlib.Core.List.{List, [], _∷_}
 use native.Mathlib.Omega.{arith}
 use lib.ListN.{length, getD}
-use lib.Dec.{eqb, ltb, leb}
-use borrow.Author.Tests.{eqb-true, ltb-true, lt-leb}
+use lib.Dec.{eqb, ltb}
+use borrow.Author.Tests.{eqb-true, ltb-true}
 use Rattle.curves.specs.Grid.{orders, isOrder, absent, distinct, under, masksFrom}
 use Rattle.curves.proofs.OrderTests.{order-length}
 use Rattle.paper.specs.Job.{allFrom}
 use Rattle.paper.proofs.Tests.{all-at}
 use Rattle.bits.specs.Axes.{Axes}
 use Rattle.bits.proofs.EachDimension.{each-axes}
-use Rattle.orders.specs.Table.{firstRow, digitAt, orderAt, orderWord, axisAt, vertexMask, InTable, AxisIs, MasksAre}
+use Rattle.orders.specs.Table.{firstRow, digitAt, orderAt, orderWord, axisAt, vertexMask, InTable, MasksAre}
 use Rattle.orders.proofs.Tested.{passes}
 
 -- ---- orders
@@ -36,9 +36,6 @@ axisUnder n row k = ltb (axisAt n row k) n
 pub axis-under : (n row k : ℕ) → InTable n row → k < n → axisAt n row k < n
 unfolding axisUnder axisAt orderAt orders allFrom
 axis-under n row k h l = ltb-true (axisAt n row k) n (passes axisUnder refl refl refl n row k h (omega arith))
-
-pub axis-is : (n row k : ℕ) → InTable n row → k < n → {r : ℕ} → r ≡ axisAt n row k → AxisIs n row k r
-axis-is n row k h l e = record { is = e; under = rw e (axis-under n row k h l) }
 
 -- ---- the arrays of the code
 
@@ -69,10 +66,6 @@ rows-end n h = each-axes (λ n. firstRow (n + 1) ≡ firstRow n + length (orders
 rowInside : ℕ → ℕ → ℕ → Bool
 rowInside n row k = ltb (firstRow n + row) 32
 
--- an entry of the array is that of the table
-sameEntry : ℕ → ℕ → ℕ → Bool
-sameEntry n row k = leb n k || eqb (digitAt (getD ordersArray (firstRow n + row) 0) (k + 1)) (axisAt n row k)
-
 -- an entry of the array is the digits of the row's order
 sameWord : ℕ → ℕ → ℕ → Bool
 sameWord n row k = eqb (getD ordersArray (firstRow n + row) 0) (orderWord (orderAt n row))
@@ -85,13 +78,6 @@ module _ (n row : ℕ) (h : InTable n row) {f : ℕ} (is-first : f ≡ firstRow 
   pub row-inside : f + row < 32
   unfolding rowInside firstRow orders allFrom
   row-inside = rw is-first (ltb-true (firstRow n + row) 32 (passes rowInside refl refl refl n row 0 h (omega arith)))
-
-  pub entry-is : (k : ℕ) → k < n → digitAt (getD ordersArray (f + row) 0) (k + 1) ≡ axisAt n row k
-  unfolding sameEntry firstRow digitAt axisAt orderAt orders allFrom
-  entry-is k l =
-      rw is-first
-      (eqb-true (digitAt (getD ordersArray (firstRow n + row) 0) (k + 1)) (axisAt n row k)
-      (rw (lt-leb n k l) at (passes sameEntry refl refl refl n row k h (omega arith))))
 
   pub word-is : getD ordersArray (f + row) 0 ≡ orderWord (orderAt n row)
   unfolding sameWord firstRow orderWord orderAt orders allFrom

@@ -65,11 +65,6 @@ pub record InTable (n row : ℕ) : Type 0 where
   pub axes : Axes n
   pub inside : row < length (orders n)
 
--- r is entry k of a row, an axis
-pub record AxisIs (n row k r : ℕ) : Type 0 where
-  pub is : r ≡ axisAt n row k
-  pub under : r < n
-
 -- r is the row of the simplex on the other side of the facet without vertex e: its order is the one that the P rule gives
 pub record NeighbourRow (n row e r : ℕ) : Type 0 where
   pub table : InTable n r

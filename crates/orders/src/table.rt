@@ -7,7 +7,7 @@ ghost use lib.ListN.{length};
 ghost use Rattle.curves.specs.Grid.{orders};
 ghost use Rattle.bits.specs.Axes.{Axes};
 ghost use Rattle.orders.specs.Table.{firstRow, digitAt, orderAt, orderWord, blockSize, foundRow, vertexMask};
-ghost use Rattle.orders.specs.Table.{InTable, AxisIs, MasksAre};
+ghost use Rattle.orders.specs.Table.{InTable, MasksAre};
 
 // The row at which the orders of n axes begin, which is where those of n - 1 end.
 const FIRST: [u8; 6] = [0, 0, 0, 2, 8, 32];
@@ -113,14 +113,6 @@ pub fn rows(n: usize) -> usize
     ensures { λ r. ⌜ r ≡ length (orders n) ⌝ }
 {
     first(n + 1) - first(n)
-}
-
-// Entry k of a row of the table for n axes.
-pub fn axis(n: usize, row: usize, k: usize) -> u64
-    requires { ⌜ (InTable n row) × (k < n) ⌝ }
-    ensures { λ r. ⌜ AxisIs n row k r ⌝ }
-{
-    digit(ORDERS[first(n) + row], k + 1)
 }
 
 // An entry of the table of orders as a number.

@@ -44,7 +44,8 @@ pub fn onward(job: &[u8], n: usize, p: HeldPlace) -> Ahead
     let here = search::find(n, p);
     let row = here.row;
     let out = here.out;
-    let corner = corners::corner_of(n, p, row, out);
+    let masks = table::vertex_masks(n, row);
+    let corner = corners::corner_of(p, masks, out);
     let mut cells = [0i64; 15];
     let stop = simplex_of(job, n, row, corner, &mut cells);
     if stop == 1 {
@@ -54,5 +55,5 @@ pub fn onward(job: &[u8], n: usize, p: HeldPlace) -> Ahead
         return Ahead::Limit;
     }
     let exit = exits::exit(n, &cells, out);
-    Ahead::Next(corners::next(n, corner, row, exit))
+    Ahead::Next(corners::next(n, corner, masks, exit))
 }

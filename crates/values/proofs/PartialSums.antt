@@ -5,7 +5,6 @@ use mathlib.Core.List.{List}
 use Prim.Native.Nat.{ℕ, _+_, _^_, _-_, _≤_, _<_}
 use native.Mathlib.Omega.{arith}
 use lib.IntN.{ℤ, pos, _+ℤ_}
-use lib.ListN.{length}
 use mir.Syntax.{w64}
 use mir.Val.{SFits}
 use mir.ValLaws.{toZ-ofZ}
@@ -32,52 +31,43 @@ module _ {n : ℕ} {b : List ℕ} (p : Polynomial n b) {v : List ℤ} (x : BoxVe
   size-of-last k l = last-size n b v (p .terms) (p .count) (x .near) k (x .short) l
 
   -- before the first turn
-  pub last-none : (i : ℕ) → i ≡ termCount b → IsSumOfLast n b v (termCount b - i) (pos 0)
+  pub last-none : (k : ℕ) → k ≡ 0 → IsSumOfLast n b v k (pos 0)
   unfolding sumOfLast sumFrom
-  last-none i e =
-      let none : termCount b - i ≡ 0 = omega arith in
-      rw none (record { is = refl; size = size-of-last 0 (omega arith) })
+  last-none k e = rw e (record { is = refl; size = size-of-last 0 (omega arith) })
 
-  -- a turn: the term before those that are summed
-  module _ (i : ℕ) {r t : ℤ} (l : 0 < i) (u : i ≤ termCount b) (h : IsSumOfLast n b v (termCount b - i) r) (j : Is termSize (termValue b v (i - 1)) t) where
-    abbrev more : ℕ
-    more = termCount b - (i - 1)
-
-    more-size : Size (2 ^ 63 - 1) (sumOfLast b v more)
-    more-size = size-weaken (size-of-last more (omega arith)) (limit-word n)
+  -- a turn: the term before the last k, which are summed
+  module _ (k i : ℕ) {r t : ℤ} (l : k < termCount b) (e : i ≡ termCount b - (k + 1)) (h : IsSumOfLast n b v k r)
+      (j : Is termSize (termValue b v i) t) where
+    more-size : Size (2 ^ 63 - 1) (sumOfLast b v (k + 1))
+    more-size = size-weaken (size-of-last (k + 1) (omega arith)) (limit-word n)
 
     -- the sum as the code makes it
-    more-is : r +ℤ back t ≡ sumOfLast b v more
+    more-is : r +ℤ back t ≡ sumOfLast b v (k + 1)
     more-is =
-        let last : ℕ = termCount b - i in
-        let one-more : more ≡ last + 1 = omega arith in
-        let term : termCount b - (last + 1) ≡ i - 1 = omega arith in
         ap₂ (λ y z. y +ℤ z) (h .is) (holds-call j term-word .is)
-        ∙ sym (⊕-is (sumOfLast b v last) (termValue b v (i - 1)))
-        ∙ ap (λ (k : ℕ). sumOfLast b v last ⊕ termValue b v k) (sym term)
-        ∙ sym (last-next b v last (omega arith))
-        ∙ ap (sumOfLast b v) (sym one-more)
+        ∙ sym (⊕-is (sumOfLast b v k) (termValue b v i))
+        ∙ ap (λ (m : ℕ). sumOfLast b v k ⊕ termValue b v m) e
+        ∙ sym (last-next b v k (omega arith))
 
     pub last-fits : SFits w64 (r +ℤ back t)
     last-fits = subst (SFits w64) (sym more-is) (size-fits-64 more-size)
 
-    pub last-more : IsSumOfLast n b v more (back (r +ℤ back t))
-    last-more = record { is = toZ-ofZ w64 (r +ℤ back t) last-fits ∙ more-is; size = size-of-last more (omega arith) }
+    pub last-more : {m : ℕ} → m ≡ k + 1 → IsSumOfLast n b v m (back (r +ℤ back t))
+    last-more same =
+        rw same (record { is = toZ-ofZ w64 (r +ℤ back t) last-fits ∙ more-is; size = size-of-last (k + 1) (omega arith) })
 
   -- the running sum after so many terms
   pub running-is : (k : ℕ) {r : ℤ} → k ≤ termCount b → IsSumOfLast n b v k r → Is (partialSumLimit n) (runningSum b v k) r
   running-is k l h = rw (running-sum-is-last b v k (x .short) l) h
+
+  -- after all terms it is the sum
+  pub raw-sum-is : {k : ℕ} {r : ℤ} → k ≡ termCount b → Is (partialSumLimit n) (runningSum b v k) r → Is sumLimit (rawSum b v) r
+  raw-sum-is all h =
+      let i = rw all at h in
+      rw (← running-sum-of-all b v (x .short)) (record { is = i .is; size = size-weaken (i .size) (limit-sum n) })
 
 -- a running sum that is returned from its bits, at another name for the vertex
 pub running-at :
     (n : ℕ) (b : List ℕ) {u v : List ℤ} (k : ℕ) {r : ℤ} → u ≡ v → Is (partialSumLimit n) (runningSum b u k) r
     → Is (partialSumLimit n) (runningSum b v k) (back r)
 running-at n b k e i = rw (← e) (holds-call i (limit-word n))
-
--- the running sum after all terms, so returned, is the sum
-pub raw-sum-at :
-    (n : ℕ) (b : List ℕ) {u v : List ℤ} {k : ℕ} {r : ℤ} → length v ≤ 4 → u ≡ v → Is (partialSumLimit n) (runningSum b u k) r → k ≡ termCount b
-    → Is sumLimit (rawSum b v) (back r)
-raw-sum-at n b {u} {v} {k} h e i all =
-    let j = running-at n b (termCount b) e (rw all at i) in
-    rw (← running-sum-of-all b v h) (record { is = j .is; size = size-weaken (j .size) (limit-sum n) })

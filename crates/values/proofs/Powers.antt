@@ -182,7 +182,3 @@ pub tables-vertex : {px py pz pw : List ℤ} {n : ℕ} → Axes n → Tables n p
 unfolding tabled
 tables-vertex {px} {py} {pz} {pw} {n} d t =
     record { short = take-short n (base px ∷ base py ∷ base pz ∷ base pw ∷ []); near = tables-within px py pz pw n d t }
-
-pub vertex-short : (n : ℕ) (v : Vertex) → length (vertexAs n v) ≤ 4
-unfolding vertexAs
-vertex-short n v = take-short n (v .x ∷ v .y ∷ v .z ∷ v .w ∷ [])

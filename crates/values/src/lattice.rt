@@ -1,14 +1,14 @@
-// Vertices: moved along the axes of a mask or along one axis, and tested against the box.
+// Vertices: moved up or down along the axes of a mask, and tested against the box.
 ghost use mathlib.Core.Path.{_≡_};
 ghost use Prim.Native.Nat.{_+_, _*_, _%_};
 ghost use lib.IntN.{pos};
 ghost use lib.ListN.{length};
-ghost use Rattle.exact.specs.Int.{_⊕_};
+ghost use Rattle.exact.specs.Int.{_⊕_, _⊖_};
 ghost use Rattle.exact.specs.Size.{Size, Is};
 ghost use Rattle.paper.specs.Values.{insideFrom};
 ghost use Rattle.bits.specs.Axes.{Axes};
 ghost use Rattle.places.specs.Held.{vertexAs, VertexSize};
-ghost use Rattle.values.specs.Moves.{moveLimit, Shifted, Moved};
+ghost use Rattle.values.specs.Moves.{moveLimit, Shifted, Lowered};
 ghost use Rattle.values.specs.Box.{axisInside};
 use bits::read;
 use places::Vertex;
@@ -33,28 +33,24 @@ pub fn shifted(v: Vertex, mask: u64) -> Vertex
     Vertex { x, y, z, w }
 }
 
-// The vertex with d, which is 1 or − 1, added on one axis.
-pub fn moved(v: Vertex, axis: u64, d: i64) -> Vertex
-    requires { ⌜ (VertexSize moveLimit v) × (Size 1 d) ⌝ }
-    ensures { λ r. ⌜ Moved v axis d r ⌝ }
+// A coordinate with the lowest bit of a mask taken off.
+fn minus_bit(x: i64, mask: u64) -> i64
+    requires { ⌜ Size moveLimit x ⌝ }
+    ensures { λ r. ⌜ Is (moveLimit + 1) (x ⊖ pos (mask % 2)) r ⌝ }
 {
-    let x = v.x;
-    let y = v.y;
-    let z = v.z;
-    let w = v.w;
-    if axis == 0 {
-        return Vertex { x: x + d, y, z, w };
-    }
-    if axis == 1 {
-        return Vertex { x, y: y + d, z, w };
-    }
-    if axis == 2 {
-        return Vertex { x, y, z: z + d, w };
-    }
-    if axis == 3 {
-        return Vertex { x, y, z, w: w + d };
-    }
-    v
+    x - (mask % 2) as i64
+}
+
+// The vertex with 1 taken off on each axis of a mask.
+pub fn lowered(v: Vertex, mask: u64) -> Vertex
+    requires { ⌜ VertexSize moveLimit v ⌝ }
+    ensures { λ r. ⌜ Lowered v mask r ⌝ }
+{
+    let x = minus_bit(v.x, mask);
+    let y = minus_bit(v.y, mask / 2);
+    let z = minus_bit(v.z, mask / 2 / 2);
+    let w = minus_bit(v.w, mask / 2 / 2 / 2);
+    Vertex { x, y, z, w }
 }
 
 // A coordinate lies from the low to the high end of an axis, both ends included; true from axis n on.

@@ -12,7 +12,7 @@ use bits::read;
 use places::Vertex;
 
 // The powers 0 to 4 of the coordinate on an axis; noughts if the axis does not count.
-fn powers(n: usize, axis: usize, x: i64) -> [i64; 5]
+pub fn powers(n: usize, axis: usize, x: i64) -> [i64; 5]
     requires { ⌜ (axis < n → Size coordinateLimit x) ⌝ }
     ensures { λ r. ⌜ (axis < n → PowersOf x r) ⌝ }
 {
@@ -75,6 +75,29 @@ fn term_value(
     read::signed_double_word(body, 8 * i) * monomial(body, n, i, px, py, pz, pw)
 }
 
+// The exact sum of the polynomial at the vertex of the tables, from its last term to its first. A trace spends its time here: the loop stands
+// apart from that of the running sum, so that it is inlined and ends at 0.
+pub fn sum_at(
+    body: &[u8],
+    n: usize,
+    px: &[i64; 5],
+    py: &[i64; 5],
+    pz: &[i64; 5],
+    pw: &[i64; 5],
+) -> i64
+    requires { ⌜ Polynomial n (now body) ⌝ }
+    requires { ⌜ Tables n (now px) (now py) (now pz) (now pw) ⌝ }
+    ensures { λ r. ⌜ Is sumLimit (rawSum (now (body .entry)) (tabled n (now (px .entry)) (now (py .entry)) (now (pz .entry)) (now (pw .entry)))) r ⌝ }
+{
+    let mut i = body.len() / 8;
+    let mut sum: i64 = 0;
+    while 0 < i {
+        i -= 1;
+        sum = sum + term_value(body, n, i, px, py, pz, pw);
+    }
+    sum
+}
+
 // The running sum of the polynomial at the vertex of the tables, from its last term to its first, after so many terms: that of the last ones.
 fn sum_of_last(
     body: &[u8],
@@ -90,11 +113,11 @@ fn sum_of_last(
     ensures { λ r. ⌜ Is (partialSumLimit n) (runningSum (now (body .entry)) (tabled n (now (px .entry)) (now (py .entry)) (now (pz .entry)) (now (pw .entry))) terms) r ⌝ }
 {
     let first = body.len() / 8 - terms;
-    let mut i = body.len() / 8;
+    let mut left = terms;
     let mut sum: i64 = 0;
-    while first < i {
-        i -= 1;
-        sum = sum + term_value(body, n, i, px, py, pz, pw);
+    while 0 < left {
+        left -= 1;
+        sum = sum + term_value(body, n, first + left, px, py, pz, pw);
     }
     sum
 }
@@ -110,17 +133,4 @@ pub fn running_sum(body: &[u8], n: usize, v: Vertex, terms: usize) -> i64
     let pz = powers(n, 2, v.z);
     let pw = powers(n, 3, v.w);
     sum_of_last(body, n, terms, &px, &py, &pz, &pw)
-}
-
-// The exact sum of the polynomial at a vertex: its running sum after all terms. A trace spends its time here, so it makes its own tables:
-// `running_sum` would be called from two places, and no longer inlined.
-pub fn raw_sum(body: &[u8], n: usize, v: Vertex) -> i64
-    requires { ⌜ (Polynomial n (now body)) × (Near n v) ⌝ }
-    ensures { λ r. ⌜ Is sumLimit (rawSum (now (body .entry)) (vertexAs n v)) r ⌝ }
-{
-    let px = powers(n, 0, v.x);
-    let py = powers(n, 1, v.y);
-    let pz = powers(n, 2, v.z);
-    let pw = powers(n, 3, v.w);
-    sum_of_last(body, n, body.len() / 8, &px, &py, &pz, &pw)
 }

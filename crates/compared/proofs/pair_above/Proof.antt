@@ -6,11 +6,11 @@ use Rattle.compared.proofs.PairSigns.{pair-first, passed-begin, found-a
 use Rattle.compared.proofs.pair_above.Statement.{statement}
 use Rattle.compared.proofs.pair_above.Tie as tie
 
-sub-minor : tie.Need-sub-minor
-sub-minor c = search needs
+sub-leading-minor : tie.Need-sub-leading-minor
+sub-leading-minor c = search needs
 
-minor-requires : tie.Need-minor-requires
-minor-requires c κs = search needs
+leading-minor-requires : tie.Need-leading-minor-requires
+leading-minor-requires c κs = search needs
 
 returns : tie.Need-returns
 returns c =
@@ -20,7 +20,7 @@ returns c =
     found-above (a .n) (a .cells .now) (a .q) (a .r) (pre .1 .0) 0 (omega (arith, pre .0 .axes .low))
     (passed-begin (a .n) (a .cells .now) (a .q) (a .r) (pre .1 .0))
     (pair-first (pre .0, (omega (arith, pre .1 .0, pre .1 .1), (omega (arith, pre .1 .0, pre .1 .1), omega (arith, pre .0 .axes .low))))
-    (c .before .minor .ensures) refl)
+    (c .before .leading-minor .ensures) refl)
     (c .if1 .taken)
 
 returns-2 : tie.Need-returns-2
@@ -31,7 +31,7 @@ returns-2 c =
     found-below (a .n) (a .cells .now) (a .q) (a .r) (pre .1 .0) 0 (omega (arith, pre .0 .axes .low))
     (passed-begin (a .n) (a .cells .now) (a .q) (a .r) (pre .1 .0))
     (pair-first (pre .0, (omega (arith, pre .1 .0, pre .1 .1), (omega (arith, pre .1 .0, pre .1 .1), omega (arith, pre .0 .axes .low))))
-    (c .before .before .minor .ensures) refl)
+    (c .before .before .leading-minor .ensures) refl)
     (c .if2 .taken)
 
 tied-above-requires : tie.Need-tied-above-requires
@@ -43,7 +43,7 @@ tied-above-requires c κs =
       found-zero (a .n) (a .cells .now) (a .q) (a .r) (pre .1 .0) 0 (omega (arith, pre .0 .axes .low))
           (passed-begin (a .n) (a .cells .now) (a .q) (a .r) (pre .1 .0))
           (pair-first (pre .0, (omega (arith, pre .1 .0, pre .1 .1), (omega (arith, pre .1 .0, pre .1 .1), omega (arith, pre .0 .axes .low))))
-          (c .before .before .minor .ensures) refl)
+          (c .before .before .leading-minor .ensures) refl)
           (c .before .if1 .left) (c .if2 .left),
     )
 
@@ -52,4 +52,4 @@ returns-3 c = search needs
 
 pub pair-above-spec : {M : Type 1} → statement M
 pair-above-spec =
-    tie.close (tie.spec sub-minor minor-requires returns returns-2 tied-above-requires returns-3)
+    tie.close (tie.spec sub-leading-minor leading-minor-requires returns returns-2 tied-above-requires returns-3)

@@ -4,7 +4,6 @@ use native.Mathlib.Omega.{arith}
 use borrow.Author.Needs.{needs}
 use Rattle.curves.specs.Grid.{turn}
 use Rattle.places.specs.Held.{masksAs, facetAs, placeAs}
-use Rattle.orders.proofs.Anywhere.{side-of-place}
 use Rattle.simplices.proofs.corners.next.Statement.{statement}
 use Rattle.simplices.proofs.corners.next.Tie as tie
 
@@ -12,12 +11,13 @@ place-at-requires : tie.Need-place-at-requires
 place-at-requires c κs = search needs
 
 sub-p : tie.Need-sub-p
-unfolding placeAs
-sub-p c = omega (arith, side-of-place _ _ _ (c .before .place-at .ensures .is))
+sub-p c = omega (arith, c .before .place-at .ensures .0)
 
 returns : tie.Need-returns
 unfolding placeAs facetAs masksAs turn
-returns c = record { is = ap turn (c .before .place-at .ensures .is); low = c .before .place-at .ensures .low }
+returns c row t digits =
+    let e = c .before .place-at .ensures .1 row t digits in
+    record { is = ap turn (e .is); low = e .low }
 
 pub next-spec : {M : Type 1} → statement M
 next-spec = tie.close (tie.spec place-at-requires sub-p returns)

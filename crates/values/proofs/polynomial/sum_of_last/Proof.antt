@@ -1,5 +1,4 @@
--- `values::polynomial::sum_of_last` meets its contract. The loop's invariant: after k terms the sum is that of the last k, where k is as many as
--- the terms from i on.
+-- `values::polynomial::sum_of_last` meets its contract. The loop's invariant: the sum is that of the last terms, as many as are no longer left.
 use Prim.Native.Nat.{ℕ, _≤_, _-_}
 use native.Mathlib.Omega.{arith}
 use mathlib.Core.Path.{_≡_}
@@ -13,11 +12,11 @@ use Rattle.values.proofs.polynomial.sum_of_last.Statement.{statement}
 use Rattle.values.proofs.polynomial.sum_of_last.Tie as tie
 
 abbrev Inv-loop : tie.InvT-loop
-Inv-loop body n terms px py pz pw first i₀ sum₀ i sum =
-    IsSumOfLast n body (tabled n px py pz pw) (termCount body - i) (toZ w64 sum) × (first ≤ i) × (i ≤ termCount body)
+Inv-loop body n terms px py pz pw first left₀ sum₀ left sum =
+    IsSumOfLast n body (tabled n px py pz pw) (terms - left) (toZ w64 sum) × (left ≤ terms)
 
 abbrev μ-loop : tie.MeasureT-loop
-μ-loop body n terms px py pz pw first i₀ sum₀ i sum = i
+μ-loop body n terms px py pz pw first left₀ sum₀ left sum = left
 
 at-vertex : (c : tie.Start Inv-loop μ-loop) → BoxVertex (tabled (c .args .n) (c .args .px .now) (c .args .py .now) (c .args .pz .now) (c .args .pw .now))
 at-vertex c = tables-vertex (c .pre .0 .0 .axes) (c .pre .1)
@@ -27,47 +26,54 @@ unfolding termCount
 sub-first c = omega (arith, c .before .pre .0 .1)
 
 loop-holds : tie.Need-loop-holds Inv-loop μ-loop
-unfolding termCount
-loop-holds c = (last-none (c .before .pre .0 .0) (at-vertex (c .before)) _ (omega arith), omega arith, omega arith)
+loop-holds c = (last-none (c .before .pre .0 .0) (at-vertex (c .before)) _ (omega arith), omega arith)
 
-sub-i : tie.Need-sub-i Inv-loop μ-loop
-sub-i c = omega (arith, c .loop-test .taken)
+sub-left : tie.Need-sub-left Inv-loop μ-loop
+sub-left c = omega (arith, c .loop-test .taken)
+
+add-term-value : tie.Need-add-term-value Inv-loop μ-loop
+unfolding termCount
+add-term-value c =
+    omega (arith, c .loop-test .taken, c .before .loop .inv .1, c .before .before .before .pre .0 .1, c .before .before .before .good)
 
 term-value-requires : tie.Need-term-value-requires Inv-loop μ-loop
+unfolding termCount
 term-value-requires c κs =
     let h = c .before .before .before .pre in
-    ((h .0 .0, omega (arith, c .loop-test .taken, c .before .loop .inv .2)), h .1)
+    ((h .0 .0, omega (arith, c .loop-test .taken, c .before .loop .inv .1, h .0 .1)), h .1)
 
 add-sum : tie.Need-add-sum Inv-loop μ-loop
+unfolding termCount
 add-sum c =
     let start = c .before .before .before .before in
     let inv = c .before .before .loop .inv in
-    last-fits (start .pre .0 .0) (at-vertex start) _ (omega (arith, c .before .loop-test .taken)) (inv .2) (inv .0)
-    (c .term-value .ensures)
+    let taken = c .before .loop-test .taken in
+    last-fits (start .pre .0 .0) (at-vertex start) _ _ (omega (arith, taken, inv .1, start .pre .0 .1))
+    (omega (arith, taken, inv .1, start .pre .0 .1)) (inv .0) (c .term-value .ensures)
 
 loop-less : tie.Need-loop-less Inv-loop μ-loop
 loop-less c = omega (arith, c .before .loop-test .taken)
 
 loop-again : tie.Need-loop-again Inv-loop μ-loop
+unfolding termCount
 loop-again c =
     let start = c .before .before .before .before in
-    let inv = c .before .before .loop .inv in (
-      last-more (start .pre .0 .0) (at-vertex start) _ (omega (arith, c .before .loop-test .taken)) (inv .2) (inv .0)
-          (c .term-value .ensures),
-      omega (arith, c .before .loop-test .taken),
-      omega (arith, inv .2),
+    let inv = c .before .before .loop .inv in
+    let taken = c .before .loop-test .taken in (
+      last-more (start .pre .0 .0) (at-vertex start) _ _ (omega (arith, taken, inv .1, start .pre .0 .1))
+          (omega (arith, taken, inv .1, start .pre .0 .1)) (inv .0) (c .term-value .ensures) (omega (arith, taken, inv .1)),
+      omega (arith, inv .1),
     )
 
 returns : tie.Need-returns Inv-loop μ-loop
-unfolding termCount
 returns c =
     let start = c .before .before .before in
     let inv = c .before .loop .inv in
-    let done : ℕ = termCount (start .args .body .now) - c .before .loop .i in
-    let all : done ≡ start .args .terms = omega (arith, c .loop-test .left, inv .1, start .pre .0 .1) in
+    let done : ℕ = start .args .terms - c .before .loop .left in
+    let all : done ≡ start .args .terms = omega (arith, c .loop-test .left) in
     running-is (start .pre .0 .0) (at-vertex start) _ (start .pre .0 .1) (rw all at (inv .0))
 
 pub sum-of-last-spec : {M : Type 1} → statement M
 sum-of-last-spec =
     tie.close
-    (tie.spec Inv-loop μ-loop sub-first loop-holds sub-i term-value-requires add-sum loop-less loop-again returns)
+    (tie.spec Inv-loop μ-loop sub-first loop-holds sub-left add-term-value term-value-requires add-sum loop-less loop-again returns)
