@@ -37,10 +37,12 @@ use Rattle.moves.specs.Columns.{newIndex, ColumnsMoved}
 use Rattle.step.specs.Held.{Held}
 use Rattle.step.specs.Ahead.{Leads}
 use Rattle.step.proofs.HeldPlaces.{next-held}
+use Rattle.step.proofs.SimplexStep.{simplex-is, job-step}
 use Rattle.carried.specs.declared.Entered.{Entered}
 use Rattle.carried.specs.Carries.{Carries, simplexAt, newVertexAt, Enters, Beyond}
 use Rattle.carried.proofs.PutColumn.{column-put}
 
+-- the cells hold n + 1 columns
 columns-length : (n : ℕ) (cells : List ℤ) → length (simplexColumns n cells) ≡ suc n
 unfolding simplexColumns
 columns-length n cells = length-map-countFrom (columnAt n cells) 0 (suc n)
@@ -58,6 +60,7 @@ cond-both x y z h k = rw (h, k)
 
 module _ {s : List ℕ} {n : ℕ} {here : Entered} {cells : List ℤ} (k : Carries s n here cells) {corner : Vertex}
     (c : CornerIs (here .place .low) (orderAt n (here .row)) (here .out) corner) where
+  -- the job's field, the place, and the simplex on its side
   φ : Field
   φ = fieldOf s
 
@@ -70,21 +73,18 @@ module _ {s : List ℕ} {n : ℕ} {here : Entered} {cells : List ℤ} (k : Carri
   large : 0 < n
   large = omega (arith, job-axes (k .held .job) .low)
 
-  simplex-is : incidence n x ≡ t
-  unfolding placeAs facetAs simplexAt x t
-  simplex-is =
-      k .found .is ∙ (λ i. record { corner = sym (c .is n) i; order = orderAt n (here .row); out = here .out })
+  is-simplex : incidence n x ≡ t
+  unfolding simplexAt x t
+  is-simplex = simplex-is (k .held) (k .found) c
 
-  job-step : stepIn s x ≡ step n φ x
-  unfolding stepIn φ
-  job-step = ap (λ m. step m (fieldOf s) x) (sym (k .held .job .dimension))
-
+  -- the new vertex decides
   decides : stepIn s x
       ≡ cond (φ .inBox (newVertex t)) (cond (φ .readable (newVertex t)) (go (placeOf (beyond t (exitOf n φ t)))) (stop limit)) (stop edge)
   unfolding φ x
-  decides = job-step ∙ new-decides n φ large x (k .held .traceable) t simplex-is
+  decides = job-step (k .held) (k .found) c ∙ new-decides n φ large x (k .held .traceable) t is-simplex
 
   module _ (v : Vertex) (e : vertexAs n v ≡ newVertexAt n corner (here .row) (here .out)) where
+    -- what holds of the new vertex holds of the vertex that the code holds
     at-new : {A : Type 0} (f : Grid.Vertex → A) → f (newVertex t) ≡ f (vertexAs n v)
     unfolding newVertexAt t
     at-new f = ap f (sym e)
@@ -109,27 +109,29 @@ module _ {s : List ℕ} {n : ℕ} {here : Entered} {cells : List ℤ} (k : Carri
       columns-full =
           column-put (k .found .vertex) put done
           ∙ ap (λ w. set (simplexColumns n cells) (here .out) (column (fieldOf s) w)) e
-          ∙ filled n (fieldOf s) large x (k .held .traceable) t simplex-is (simplexColumns n cells) (here .plus) (k .carried)
+          ∙ filled n (fieldOf s) large x (k .held .traceable) t is-simplex (simplexColumns n cells) (here .plus) (k .carried)
 
       module _ {w : ℕ} (is : w ≡ comparedExit n (simplexColumns n full) (here .plus) (here .out)) where
+        -- the comparisons find the exit
         exit-is : w ≡ exitOf n φ t
         unfolding t x φ simplexAt
         exit-is =
             is ∙ ap (λ us. comparedExit n us (here .plus) (here .out)) columns-full
-            ∙ compared n (fieldOf s) large x (k .held .traceable) t simplex-is (simplexColumns n cells) (here .plus) (k .carried)
+            ∙ compared n (fieldOf s) large x (k .held .traceable) t is-simplex (simplexColumns n cells) (here .plus) (k .carried)
 
         pub exit-low : w ≤ n
         unfolding x φ
-        exit-low = subst (λ j. j ≤ n) (sym exit-is) (exit-bound n φ large x (k .held .traceable) t simplex-is)
+        exit-low = subst (λ j. j ≤ n) (sym exit-is) (exit-bound n φ large x (k .held .traceable) t is-simplex)
 
         valid : Valid n t
         unfolding x φ
-        valid = valid-here n φ large x (k .held .traceable) t simplex-is
+        valid = valid-here n φ large x (k .held .traceable) t is-simplex
 
         -- the simplex there
         there : Incidence
         there = beyond t w
 
+        -- the step goes on to its place
         goes : stepIn s x ≡ go (placeOf there)
         unfolding there φ
         goes =
@@ -140,10 +142,11 @@ module _ {s : List ℕ} {n : ℕ} {here : Entered} {cells : List ℤ} (k : Carri
         unfolding there φ x
         traceable =
             subst (λ j. Traceable n (fieldOf s) (placeOf (beyond t j))) (sym exit-is)
-            (traceable-beyond n (fieldOf s) large x (k .held .traceable) t simplex-is
+            (traceable-beyond n (fieldOf s) large x (k .held .traceable) t is-simplex
             (at-new (fieldOf s .inBox) ∙ inside) (at-new (fieldOf s .readable) ∙ readable))
 
         module _ {q : Entered} (b : Beyond n corner (here .row) (here .out) (here .plus) w q) where
+          -- what the code holds of it: the place, the vertex left out, the order
           place-is : placeAs n (q .place) ≡ placeOf there
           unfolding there t simplexAt placeOf
           place-is = b .is-place .is ∙ sym (place-beyond n large t valid w exit-low)
@@ -156,6 +159,7 @@ module _ {s : List ℕ} {n : ℕ} {here : Entered} {cells : List ℤ} (k : Carri
           unfolding there t simplexAt beyond pivot
           order-is = b .is-row .order ∙ sym (pivot-order (vertexAs n corner) (orderAt n (here .row)) w)
 
+          -- the step leads to the place that is held
           pub leads : Leads s n (placeAs n (here .place)) (q .place)
           unfolding x φ
           leads = record {
@@ -165,6 +169,7 @@ module _ {s : List ℕ} {n : ℕ} {here : Entered} {cells : List ℤ} (k : Carri
                 (subst (λ y. Traceable n (fieldOf s) y) (sym place-is) traceable);
           }
 
+          -- the simplex on its side
           found-there : Found n (placeAs n (q .place)) (q .row) (q .out)
           unfolding there
           found-there = record {
@@ -182,6 +187,7 @@ module _ {s : List ℕ} {n : ℕ} {here : Entered} {cells : List ℤ} (k : Carri
           }
 
           module _ {after : List ℤ} (m : ColumnsMoved n w (newIndex n w) full after) where
+            -- and what is carried there
             carried-there : Carried n φ (placeOf there) (there .out) (simplexColumns n after) (plusAcross (here .plus) (here .out) w)
             unfolding there x φ t simplexAt facetColumns
             carried-there =
@@ -189,7 +195,7 @@ module _ {s : List ℕ} {n : ℕ} {here : Entered} {cells : List ℤ} (k : Carri
                 (λ j. remove (beyond t j .out) (simplexColumns n after) ≡ remove j (columnsOf (fieldOf s) t)
                 → Carried n (fieldOf s) (placeOf (beyond t j)) (beyond t j .out) (simplexColumns n after) (plusAcross (here .plus) (here .out) j))
                 (sym exit-is)
-                (carried-on n (fieldOf s) large x (k .held .traceable) t simplex-is (simplexColumns n cells) (here .plus) (k .carried)
+                (carried-on n (fieldOf s) large x (k .held .traceable) t is-simplex (simplexColumns n cells) (here .plus) (k .carried)
                 (simplexColumns n after) (columns-length n after))
                 (ap (λ j. remove j (simplexColumns n after)) (sym out-is ∙ b .is-out) ∙ m .columns ∙ ap (remove w) columns-full)
 

@@ -1,11 +1,10 @@
--- The new vertex is the corner with its mask added, and beyond a facet the row, the vertex left out and the place are those of the
--- simplex there.
+-- The new vertex is the corner with its mask added.
 use Prim.Native.Nat.{ℕ, suc, zero, _≤_, _<_}
 use native.Mathlib.Omega.{arith}
 use mathlib.Core.Path.{_≡_, refl, sym, ap, _∙_}
 use mathlib.Core.List.{List, [], _∷_, map}
 use lib.ListN.{length, getD}
-use Rattle.curves.specs.Grid.{plus, vertices, masksFrom}
+use Rattle.curves.specs.Grid.{plus, masksFrom}
 use Rattle.curves.specs.Grid as Grid
 use Rattle.curves.specs.Carried.{newVertex}
 use Rattle.curves.proofs.OrderTests.{order-distinct}
@@ -24,6 +23,7 @@ mapped c [] i l = absurd (omega arith)
 mapped c (m ∷ ms) zero l = refl
 mapped c (m ∷ ms) (suc i) l = mapped c ms i (omega arith)
 
+-- a vertex, the corner too, is the corner with its mask added
 vertex-of : (c : Grid.Vertex) (ms : List ℕ) (i : ℕ) → i ≤ length ms → getD (c ∷ map (plus c) ms) i [] ≡ plus c (getD (0 ∷ ms) i 0)
 vertex-of c ms zero l = sym (plus-zero c)
 vertex-of c ms (suc i) l = mapped c ms i l

@@ -2,12 +2,12 @@
 use Prim.Native.Nat.{ℕ, suc, zero, _+_, _*_, _-_, _≤_, _<_}
 use native.Mathlib.Omega.{arith}
 use native.Mathlib.Decide.{decLt}
-use mathlib.Core.Path.{_≡_, refl, sym, ap, ap₂, _∙_}
+use mathlib.Core.Path.{_≡_, sym, ap, ap₂, _∙_}
 use mathlib.Core.Bool.{Bool, true}
-use mathlib.Core.List.{List, [], _∷_, map}
+use mathlib.Core.List.{List, _∷_, map}
 use lib.IntN.{ℤ}
 use lib.ListN.{getD, set}
-use Rattle.exact.specs.Int.{0ℤ}
+use Rattle.exact.specs.Int.{0ℤ, 1ℤ}
 use Rattle.exact.specs.Crossed.{countFrom}
 use Rattle.exact.proofs.CountFrom.{map-countFrom-ext}
 use Rattle.curves.specs.Grid.{Vertex}
@@ -35,12 +35,13 @@ module _ {s : List ℕ} {n : ℕ} {v : Vertex} {i : ℕ} {before : List ℤ} {r 
   -- the column of another vertex
   other-column : (q : ℕ) → (q ≡ i → ⊥) → columnAt n after q ≡ columnAt n before q
   unfolding columnAt
-  other-column q d = ap (λ l. _∷_ (lib.IntN.pos 1) l) (map-countFrom-ext _ _ 0 (n - 1) (λ p low high. at p (omega arith) (decLt q i)))
+  other-column q d = ap (λ l. 1ℤ ∷ l) (map-countFrom-ext _ _ 0 (n - 1) (λ p low high. at p (omega arith) (decLt q i)))
     where
       at : (p : ℕ) → p < n - 1 → Dec (q < i) → getD after (3 * q + p) 0ℤ ≡ getD before (3 * q + p) 0ℤ
       at p u (yes h) = put .lower (3 * q + p) (omega (arith, put .cells .axes .high))
       at p u (no h) = put .upper (3 * q + p) (omega (arith, d, put .cells .axes .high))
 
+  -- the columns after it
   pub column-put : r ≡ true → simplexColumns n after ≡ set (simplexColumns n before) i (column (fieldOf s) v)
   unfolding simplexColumns
   column-put e =

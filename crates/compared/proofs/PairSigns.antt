@@ -21,7 +21,7 @@ use Rattle.exact.proofs.Bits.{holds-call, is-size, back, fits-sub, holds-sub}
 use Rattle.exact.proofs.SizeLaws.{size-pos, size-neg, size-weaken, size-fits-64}
 use Rattle.exact.proofs.Cofactor.{coefficient-minor, alternate-even, alternate-odd}
 use Rattle.exact.proofs.PairSigns.{position-later}
-use Rattle.exact.proofs.ExitCompared.{skip-rises, cond-holds}
+use Rattle.exact.proofs.ExitCompared.{skip-next, cond-holds}
 use Rattle.facets.specs.Cells.{Cells, simplexColumns, facetColumns}
 use Rattle.facets.specs.Entries.{coefficientLimit}
 use Rattle.facets.specs.Signs.{signNumber}
@@ -165,7 +165,7 @@ module _ (n : ℕ) (us : List Column) (plus : Bool) (p : ℕ) where
   unfolding comparedExit
   compare-begin l e = record {
     rest = ap (λ x. keptFrom n us plus p x 1 (n - 1)) (sym e);
-    low = omega (arith, e, skip-rises p 0);
+    low = omega (arith, e, skip-next p 0);
     inside = l;
   }
 
@@ -185,7 +185,7 @@ module _ (n : ℕ) (us : List Column) (plus : Bool) (p : ℕ) where
             subst (λ j. r < skip p j) next
             (subst (λ x. x < skip p (suc k)) (sym e)
             (cond-holds (λ x. x < skip p (suc k)) (stays n us plus p q (skip p k)) q (skip p k)
-            (omega (arith, c .low, skip-rises p k)) (skip-rises p k)));
+            (omega (arith, c .low, skip-next p k)) (skip-next p k)));
         inside = omega arith;
       }
 

@@ -2,7 +2,6 @@
 -- simplex's columns, the comparisons of `exact.specs.Compared` find the exit, and beyond the exit the columns are carried on.
 use Prim.Native.Nat.{ℕ, suc, zero, _≤_, _<_}
 use mathlib.Core.Path.{_≡_, refl, sym, ap, _∙_, subst}
-use mathlib.Core.Logic.{_≢_}
 use mathlib.Core.Bool.{Bool, true, false, cond, _&&_}
 use mathlib.Core.List.{List, [], _∷_, _++_}
 use native.Mathlib.Omega.{arith}
@@ -148,10 +147,6 @@ module _ (n : ℕ) (φ : Field) (pos : 0 < n) (p : Place) (o : Traceable n φ p)
   -- the exit is one of the vertices
   pub exit-bound : exitOf n φ t ≤ n
   exit-bound = other-here .low
-
-  -- and not the new one
-  pub exit-other : t .out ≢ exitOf n φ t
-  exit-other = other-here .other
 
   -- a test that holds of the facet's vertices holds of all those of t exactly if it holds of the new one
   new-alone :

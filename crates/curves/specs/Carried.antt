@@ -13,7 +13,7 @@ use Rattle.curves.specs.Grid.{Vertex, Place, Incidence, facetVertices, v
 use Rattle.curves.specs.Step.{Field, columns}
 
 -- us are the columns carried at a place, one for each vertex of the simplex on its side. That of vertex `out`, which the facet leaves out, may
--- be anything; the others are, vertex by vertex, the columns of the facet: 1 and the values there. `plus`: their determinant is above 0.
+-- be anything (which vertex that is, the simplex says: `incidence`); the others are, vertex by vertex, the columns of the facet: 1 and the values there. `plus`: their determinant is above 0.
 pub record Carried (n : ℕ) (φ : Field) (p : Place) (out : ℕ) (us : List Column) (plus : Bool) : Type 0 where
   pub size : length us ≡ suc n
   pub known : remove out us ≡ columns φ (facetVertices (p .facet))

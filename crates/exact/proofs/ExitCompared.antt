@@ -25,11 +25,11 @@ use Rattle.exact.proofs.PairSigns.{alternateSign-add, alternateSign-opp
 -- ---- what is kept
 
 -- the vertices other than p, in rising order
-pub skip-rises : (p k : ℕ) → skip p k < skip p (suc k)
+pub skip-next : (p k : ℕ) → skip p k < skip p (suc k)
 unfolding skip
-skip-rises zero k = omega arith
-skip-rises (suc p) zero = omega arith
-skip-rises (suc p) (suc k) = omega (arith, skip-rises p k)
+skip-next zero k = omega arith
+skip-next (suc p) zero = omega arith
+skip-next (suc p) (suc k) = omega (arith, skip-next p k)
 
 -- what holds of two numbers holds of the one that a test picks
 pub cond-holds : (P : ℕ → Type 0) (b : Bool) (q r : ℕ) → P q → P r → P (cond b q r)
@@ -69,13 +69,13 @@ module _ (n : ℕ) (us : List Column) (plus : Bool) (p e : ℕ) (p≤ : p ≤ n)
   kept-last zero k q size low (inr l) = absurd (omega (arith, position-lt n p e p≤ e≤ p≢e))
   kept-last (suc m) k q size low known =
       kept-last m (suc k) (kept q k) (omega arith)
-      (cond-holds (λ x. x < skip p (suc k)) (stays n us plus p q (skip p k)) q (skip p k) (omega (arith, skip-rises p k)) (skip-rises p k))
+      (cond-holds (λ x. x < skip p (suc k)) (stays n us plus p q (skip p k)) q (skip p k) (omega (arith, skip-next p k)) (skip-next p k))
       (kept-next k q (omega arith) low known)
 
   -- so the exit by comparisons is e
   kept-exit : 0 < n → comparedExit n us plus p ≡ e
   unfolding comparedExit
-  kept-exit large = kept-last (n - 1) 1 (skip p 0) (omega arith) (skip-rises p 0) (here-or-later 0 (omega arith))
+  kept-exit large = kept-last (n - 1) 1 (skip p 0) (omega arith) (skip-next p 0) (here-or-later 0 (omega arith))
 
 -- ---- the exit
 

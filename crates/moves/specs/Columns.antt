@@ -11,7 +11,7 @@ use Rattle.facets.specs.Cells.{Cells, facetColumns}
 unfoldable pub newIndex : ℕ → ℕ → ℕ
 newIndex n e = cond (eqb e 0) n (cond (eqb e n) 0 e)
 
--- the columns other than that of vertex e are, in their order, the columns other than that of vertex `out`
+-- the columns after the move, but for that of vertex `out`, are in their order the columns before it, but for that of vertex e
 pub record ColumnsMoved (n e out : ℕ) (before after : List ℤ) : Type 0 where
   pub within : Cells n after
   pub columns : facetColumns n after out ≡ facetColumns n before e

@@ -1,17 +1,15 @@
 -- Masks and side of a simplex's facet (`place-anywhere`) and the order of a neighbour (`pivot-order`) do not depend on its corner, corner
 -- and lowest vertex give each other back (`low-corner`, `corner-low`), and lowest vertex, masks and side of a row's facet are the place
 -- (`place-is`).
-use Prim.Native.Nat.{ℕ, suc, zero, _-_, _≤_, _<_}
+use Prim.Native.Nat.{ℕ, suc, zero, _-_, _≤_}
 use mathlib.Core.Path.{_≡_, refl, sym, ap, ap₂, _∙_}
 use mathlib.Core.Bool.{Bool, true, false, cond}
 use mathlib.Core.List.{List, [], _∷_}
-use native.Mathlib.Omega.{arith}
 use lib.ListN.{length, take}
 use lib.Dec.{eqb}
 use Rattle.curves.specs.Grid.{Place, placeAt, exchange, pivotFirst, pivotLast, pivotAt}
 use Rattle.curves.specs.Grid as Grid
 use Rattle.curves.proofs.Vertices.{up-down, down-up}
-use Rattle.curves.proofs.IncidenceOk.{side-of-under}
 use Rattle.places.specs.declared.Vertex.{Vertex}
 use Rattle.places.specs.declared.HeldPlace.{HeldPlace}
 use Rattle.places.specs.Held.{vertexAs, masksAs, facetAs, placeAs}
@@ -57,16 +55,6 @@ pivot-order c o (suc i) = go (eqb (suc i) (length o))
         ≡ cond b (pivotLast [] o) (record { corner = []; order = exchange i o; out = suc i }) .order
     go true = refl
     go false = refl
-
--- the side is 0 or 1
-side-under : (c : Grid.Vertex) (o : List ℕ) (i : ℕ) → placeAt c o i .side < 2
-unfolding placeAt
-side-under c [] i = omega arith
-side-under c (a ∷ o) zero = omega arith
-side-under c (a ∷ o) (suc i) = side-of-under i (a ∷ o)
-
-pub side-of-place : (c : Grid.Vertex) (o : List ℕ) (i : ℕ) {p : Place} → p ≡ placeAt c o i → p .side < 2
-side-of-place c o i e = omega (arith, ap (λ q. q .side) e, side-under c o i)
 
 pub place-is :
     (n : ℕ) (corner : Vertex) (row out : ℕ) (r : HeldPlace) → InTable n row → out ≤ n

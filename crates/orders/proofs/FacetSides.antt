@@ -21,7 +21,7 @@ abbrev pub flatAt : ℕ → ℕ → ℕ → Bool
 flatAt n row out = eqb (suc (ones (facetMask n row out (n - 1)))) n
 
 -- the side by the paper's rule
-abbrev pub sideRule : ℕ → ℕ → ℕ → ℕ
+abbrev sideRule : ℕ → ℕ → ℕ → ℕ
 sideRule n row out =
     cond (flatAt n row out) (cond (eqb out 0) 1 0) (cond (ltb (axisAt n row (out - 1)) (axisAt n row out)) 0 1)
 
@@ -51,11 +51,11 @@ module _ {n row out : ℕ} (pre : InTable n row × (out ≤ n)) where
 
 -- the side by the masks of the vertex left out and of the vertices before and behind it: the lower axis comes first if
 -- at − below < above − at
-abbrev pub maskRule : ℕ → ℕ → ℕ → ℕ → ℕ → ℕ
+abbrev maskRule : ℕ → ℕ → ℕ → ℕ → ℕ → ℕ
 maskRule n out below at above = cond (eqb out 0) 1 (cond (eqb out n) 0 (cond (ltb (at + at) (below + above)) 0 1))
 
 -- with the masks of a row's vertices
-abbrev pub rowRule : ℕ → ℕ → ℕ → ℕ
+abbrev rowRule : ℕ → ℕ → ℕ → ℕ
 rowRule n row out =
     maskRule n out (vertexMask (orderAt n row) (out - 1)) (vertexMask (orderAt n row) out) (vertexMask (orderAt n row) (out + 1))
 

@@ -27,7 +27,7 @@ use Rattle.orders.proofs.Anywhere.{low-corner, corner-low}
 
 -- ---- sizes
 
-abbrev pub Sized : ℕ → List ℤ → Type 0
+abbrev Sized : ℕ → List ℤ → Type 0
 Sized m l = (k : ℕ) → Size m (getD l k 0ℤ)
 
 vertex-sized : {m : ℕ} {v : Vertex} → VertexSize m v → Sized m (vertexAs 4 v)

@@ -17,7 +17,7 @@ use Rattle.orders.proofs.Tested.{passes}
 abbrev pub beyondAt : ℕ → ℕ → ℕ → ℕ
 beyondAt n row e = orderBeyond n (orderWord (orderAt n row)) e
 
-abbrev pub rowBeyond : ℕ → ℕ → ℕ → ℕ
+abbrev rowBeyond : ℕ → ℕ → ℕ → ℕ
 rowBeyond n row e = foundRow n (beyondAt n row e)
 
 -- the tests

@@ -9,9 +9,6 @@ ghost use Rattle.bits.specs.Axes.{Axes};
 ghost use Rattle.orders.specs.Table.{firstRow, digitAt, orderAt, orderWord, blockSize, foundRow, vertexMask};
 ghost use Rattle.orders.specs.Table.{InTable, MasksAre};
 
-// The row at which the orders of n axes begin, which is where those of n - 1 end.
-const FIRST: [u8; 6] = [0, 0, 0, 2, 8, 32];
-
 // Each order of the axes, the first on the left; where it has no further axis, 0.
 const ORDERS: [u16; 32] = [
     0x0100,
@@ -84,19 +81,13 @@ const MASKS: [u16; 32] = [
     0x8CEF,
 ];
 
-// A byte of a table as a number.
-fn wide(x: u8) -> usize
-    ensures { λ r. ⌜ r ≡ x ⌝ }
-{
-    x as usize
-}
-
-// The entry of the table at which the orders of n axes begin.
+// The entry of the table at which the orders of n axes begin, which is where those of n - 1 end: 0, 2, 8 and, behind those of four axes, 32.
+// By a formula, since an array is stored anew at each read.
 fn first(n: usize) -> usize
     requires { ⌜ n < 6 ⌝ }
     ensures { λ r. ⌜ r ≡ firstRow n ⌝ }
 {
-    wide(FIRST[n])
+    (1usize << (2 * n)) / 32
 }
 
 // Digit k of four hexadecimal digits, from the left; 0 for k = 0.

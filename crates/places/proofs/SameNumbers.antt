@@ -57,6 +57,16 @@ unfolding heldBack
 vertex-compared {n} {v} {u} a f g ex ey ez ew =
     rw (ex, ey, ez, ew) (each-coordinate-compared (heldBack v) (heldBack u) n a) ∙ ap₂ (λ s t. sameVertex (vertexAs n s) (vertexAs n t)) f g
 
+-- the first coordinates differ
+pub vertex-differs : {n : ℕ} {v u : Vertex} {x : Bool} → Axes n → heldBack v ≡ v → heldBack u ≡ u
+    → x ≡ counted true n 0 (sameVertex (back (v .x) ∷ []) (back (u .x) ∷ [])) → x ≡ false
+    → false ≡ sameVertex (vertexAs n v) (vertexAs n u)
+vertex-differs {n} {v} {u} a f g ex e =
+    let y = counted true n 1 (sameVertex (back (v .y) ∷ []) (back (u .y) ∷ [])) in
+    let z = counted true n 2 (sameVertex (back (v .z) ∷ []) (back (u .z) ∷ [])) in
+    let w = counted true n 3 (sameVertex (back (v .w) ∷ []) (back (u .w) ∷ [])) in
+    ap (λ b. b && y && z && w) (sym e) ∙ vertex-compared a f g ex refl refl refl
+
 -- ---- masks
 
 each-mask-compared : (p q : HeldPlace) (n : ℕ) → Axes n

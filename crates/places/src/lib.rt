@@ -218,11 +218,15 @@ fn same_coordinate(n: usize, a: usize, x: i64, y: i64) -> bool
     true
 }
 
+// Two vertices are the same. Along a trace nearly all differ from the start's on axis 1, and no more is looked at then.
 fn same_vertex(n: usize, v: Vertex, u: Vertex) -> bool
     requires { ⌜ Axes n ⌝ }
     ensures { λ r. ⌜ r ≡ sameVertex (vertexAs n v) (vertexAs n u) ⌝ }
 {
     let x = same_coordinate(n, 0, v.x, u.x);
+    if !x {
+        return false;
+    }
     let y = same_coordinate(n, 1, v.y, u.y);
     let z = same_coordinate(n, 2, v.z, u.z);
     let w = same_coordinate(n, 3, v.w, u.w);

@@ -70,17 +70,17 @@ module _
     {row out : ℕ} (f : Found n (placeAs n p) row out)
     {corner : Vertex} (c : CornerIs (p .low) (orderAt n row) out corner)
   where
-    abbrev simplex : Incidence
+    abbrev pub simplex : Incidence
     simplex = record { corner = vertexAs n corner; order = orderAt n row; out = out }
 
     abbrev corners : List Grid.Vertex
     corners = vertices (vertexAs n corner) (orderAt n row)
 
-    simplex-is : incidence n (placeAs n p) ≡ simplex
+    pub simplex-is : incidence n (placeAs n p) ≡ simplex
     unfolding placeAs facetAs
     simplex-is = f .is ∙ (λ i. record { corner = sym (c .is n) i; order = orderAt n row; out = out })
 
-    job-step : stepIn s (placeAs n p) ≡ step n (fieldOf s) (placeAs n p)
+    pub job-step : stepIn s (placeAs n p) ≡ step n (fieldOf s) (placeAs n p)
     unfolding stepIn
     job-step = ap (λ k. step k (fieldOf s) (placeAs n p)) (sym (h .job .dimension))
 

@@ -3,12 +3,16 @@
 
 use library::answers::{and_those_of_open, Answers};
 use library::ffi::Library;
-use reference::generate::{any_job, valid, JobTally, Random};
+use reference::build::Parts;
+use reference::generate::{any_job, of_any_course, valid, JobTally, Random};
+use reference::grid::Place;
 use reference::job::Job;
+use reference::long_curves::long_curves;
 use reference::operations::{trace_places, Verdict};
 use reference::product::{Product, Reference};
 use reference::sums_met::{SumsMet, AROUND_BIAS, NOT_READABLE};
 use reference::tally::{Answer, Tally};
+use reference::transitions_met::TransitionsMet;
 
 /// Trace's own answers.
 const OWN: [Answer; 7] =
@@ -19,7 +23,12 @@ fn noise(r: &mut Random, length: usize) -> Vec<u8> {
     (0..length).map(|_| r.byte()).collect()
 }
 
-fn compare(r: &mut Random, job: &[u8], length: usize) -> Result<(Verdict, usize), u8> {
+/// Compares answers and buffers; gives both.
+fn compare_buffers(
+    r: &mut Random,
+    job: &[u8],
+    length: usize,
+) -> (Result<(Verdict, usize), u8>, Vec<u8>) {
     let before = noise(r, length);
     let mut wanted_buffer = before.clone();
     let wanted = Reference.trace(job, &mut wanted_buffer);
@@ -29,7 +38,24 @@ fn compare(r: &mut Random, job: &[u8], length: usize) -> Result<(Verdict, usize)
     if wanted.is_err() {
         assert!(buffer == before);
     }
-    wanted
+    (wanted, buffer)
+}
+
+fn compare(r: &mut Random, job: &[u8], length: usize) -> Result<(Verdict, usize), u8> {
+    compare_buffers(r, job, length).0
+}
+
+/// Compares traces with space for so many places; gives verdict and places.
+fn compare_places(
+    r: &mut Random,
+    parts: &Parts,
+    space: usize,
+) -> Result<(Verdict, Vec<Place>), u8> {
+    let size = 3 * parts.n;
+    let (answer, buffer) = compare_buffers(r, &parts.bytes(), size * space);
+    let (verdict, count) = answer?;
+    let read = |bytes| Place::read(parts.n, bytes).expect("a place");
+    Ok((verdict, buffer.chunks_exact(size).take(count).map(read).collect()))
 }
 
 /// An answer by its name.
@@ -128,4 +154,41 @@ fn trace_opens_first() {
     }
     made.assert_all();
     answers.assert_met(&and_those_of_open(&OWN));
+}
+
+/// Traces go through simplices by every way, with every tie, and to every end.
+#[test]
+fn trace_passes_every_way() {
+    let mut r = Random::new(35);
+    let (mut made, mut met) = (Tally::default(), TransitionsMet::default());
+    for _ in 0..45_000 {
+        let (course, parts) = of_any_course(&mut r);
+        made.count(parts.n, course);
+        if let Ok((verdict, places)) = compare_places(&mut r, &parts, 300) {
+            met.count(&parts.opened(), verdict, &places);
+        }
+    }
+    made.assert_all();
+    met.assert_later([500, 100, 25]);
+    met.assert_first([150, 40, 10]);
+    met.assert_following([1_000, 60, 10]);
+    met.assert_ties([500, 300, 300]);
+    met.assert_deciding([300, 30, 10]);
+    met.assert_ends([40, 10, 20]);
+}
+
+/// The whole of a curve of tens of thousands of places, which is shorter in dimension 2.
+#[test]
+fn trace_of_a_long_curve() {
+    let mut r = Random::new(36);
+    for (parts, count) in long_curves() {
+        let (job, size) = (parts.bytes(), 3 * parts.n);
+        for (space, wanted) in [
+            (count + 1, (Verdict::Loop, count)),
+            (count, (Verdict::Loop, count)),
+            (count - 1, (Verdict::Full, count - 1)),
+        ] {
+            assert_eq!(compare(&mut r, &job, size * space), Ok(wanted));
+        }
+    }
 }

@@ -1,5 +1,5 @@
 -- `compared::kept` meets its contract: the test is the comparison.
-use mathlib.Core.Path.{_≡_, sym, ap, _∙_}
+use mathlib.Core.Path.{sym, ap, _∙_}
 use mathlib.Core.Bool.{cond}
 use borrow.Author.Needs.{needs}
 use Rattle.facets.specs.Cells.{simplexColumns}

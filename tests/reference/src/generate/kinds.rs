@@ -244,7 +244,7 @@ fn linear_product(r: &mut Random, n: usize, axis: usize, most: u64) -> Vec<Term>
 
 /// Moves the polynomial's zero set, or the border of what the bias makes 0, close to a vertex, by
 /// its constant term, where the coefficients stay within their limit.
-fn through(r: &mut Random, terms: &[Term], at: &Vertex, bias: u8) -> Vec<Term> {
+pub fn through(r: &mut Random, terms: &[Term], at: &Vertex, bias: u8) -> Vec<Term> {
     let bias = bias as i128;
     let wanted = r.pick(&[0, 0, 1, -1, 2, -3, bias, -bias, bias + 1, -bias - 1]);
     let constant = wanted - sum(terms, at);
@@ -475,7 +475,7 @@ fn crossed_at(r: &mut Random, job: &Job, lowest: &Vertex) -> Option<Facet> {
 
 /// Looks for a crossed facet in the cubes around a vertex and then anywhere in the box, and
 /// makes it the start; any facet of the box is the start if none is found soon.
-fn choose_start(r: &mut Random, parts: &mut Parts, near: &Vertex) {
+pub fn choose_start(r: &mut Random, parts: &mut Parts, near: &Vertex) {
     let job = parts.opened();
     let cubes = 1 << parts.n;
     let first = r.index(cubes);

@@ -1,4 +1,5 @@
 -- `step::ahead::onward` meets its contract: the simplex found is the one on the place's side, and its exit leads on.
+use native.Mathlib.Omega.{arith}
 use Rattle.job.proofs.OpenJob.{job-dimension, job-axes}
 use Rattle.columns.proofs.FacetColumns.{zero-cells}
 use Rattle.step.proofs.HeldPlaces.{held-form, low-moves, corner-moves}
@@ -44,7 +45,14 @@ next-requires c κs =
     let k = c .before .before .before .before .before .before .corner-of .ensures _ _ (c .before .before .before .before .before .before .before .vertex-masks .ensures) in
     let v = c .before .before .before .before .simplex-of .ensures in (
       job-axes (h .job) .high,
-      (way-inside h f k v (no-stop v (c .before .before .before .if1 .left) (c .before .before .if2 .left)) (c .exit .ensures), corner-moves h k),
+      (
+        omega (
+          arith,
+          way-inside h f k v (no-stop v (c .before .before .before .if1 .left) (c .before .before .if2 .left)) (c .exit .ensures),
+          f .vertex,
+        ),
+        corner-moves h k,
+      ),
     )
 
 returns-3 : tie.Need-returns-3
