@@ -1,11 +1,12 @@
 -- The answers of the operations as the C interface's structs. Refusal 0 is none; beside a refusal every other field is 0, and so is a field
--- that an answer does not use: the axes, the masks and the counts that a lower dimension does not have, the place of an edge, the point of a close.
+-- that an answer does not use: the axes, the masks and the counts that a lower dimension does not have, the place of an
+-- edge, the point of a close, the vertex and the powers that a ground does not name.
 use Prim.Native.Nat.{ℕ}
 use mathlib.Core.Bool.{Bool, true, false, not}
 use mathlib.Core.List.{List}
 use lib.IntN.{ℤ}
 use lib.Dec.{eqb}
-use lib.ListN.{getD}
+use lib.ListN.{length, getD}
 use lib.Ieee.{Float, ofBits, binary64}
 use Rattle.exact.specs.Int.{0ℤ}
 use Rattle.curves.specs.Grid.{Place}
@@ -14,9 +15,11 @@ use Rattle.curves.specs.Step.{Stop, edge, limit}
 use Rattle.paper.specs.Job.{entryOffset, entryLength}
 use Rattle.paper.specs.Operations.{Answer, refused, answered, unless, bodyRefusal}
 use Rattle.paper.specs.Pen.{Move, lift, draw, close}
+use Rattle.grounds.specs.Ground.{Ground, zeroDeterminant, vertexAgainst, allWith}
 use Rattle.cabi.specs.declared.OpenAnswer.{OpenAnswer}
 use Rattle.cabi.specs.declared.BodyAnswer.{BodyAnswer}
 use Rattle.cabi.specs.declared.JudgeAnswer.{JudgeAnswer}
+use Rattle.cabi.specs.declared.GroundAnswer.{GroundAnswer}
 use Rattle.cabi.specs.declared.PointAnswer.{PointAnswer}
 use Rattle.cabi.specs.declared.StepAnswer.{StepAnswer}
 use Rattle.cabi.specs.declared.TraceAnswer.{TraceAnswer}
@@ -41,6 +44,39 @@ unfoldable pub judgeNumbers : Answer Bool → JudgeAnswer
 judgeNumbers (refused k) = record { refusal = k; crossed = 0 }
 judgeNumbers (answered true) = record { refusal = 0; crossed = 1 }
 judgeNumbers (answered false) = record { refusal = 0; crossed = 0 }
+
+-- kind 0 D is 0, 1 a vertex against D, 2 crossed, with n powers
+unfoldable pub withoutPowers : ℕ → ℕ → ℕ → ℕ → GroundAnswer
+withoutPowers refusal kind vertex power = record {
+  refusal = refusal;
+  kind = kind;
+  n = 0;
+  vertex = vertex;
+  power = power;
+  power0 = 0;
+  power1 = 0;
+  power2 = 0;
+  power3 = 0;
+}
+
+unfoldable pub withPowers : ℕ → ℕ → ℕ → ℕ → ℕ → GroundAnswer
+withPowers n a b c d = record {
+  refusal = 0;
+  kind = 2;
+  n = n;
+  vertex = 0;
+  power = 0;
+  power0 = a;
+  power1 = b;
+  power2 = c;
+  power3 = d;
+}
+
+unfoldable pub groundNumbers : Answer Ground → GroundAnswer
+groundNumbers (refused k) = withoutPowers k 0 0 0
+groundNumbers (answered zeroDeterminant) = withoutPowers 0 0 0 0
+groundNumbers (answered (vertexAgainst i j)) = withoutPowers 0 1 i j
+groundNumbers (answered (allWith js)) = withPowers (length js) (getD js 0 0) (getD js 1 0) (getD js 2 0) (getD js 3 0)
 
 -- the point in steps of 1/1024
 unfoldable pub pointNumbers : Answer (List ℤ) → PointAnswer

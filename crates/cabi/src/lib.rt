@@ -2,6 +2,7 @@
 // pointer and a length. Refusal 0 is none; beside a refusal, and where an answer does not use a field, the field is 0.
 
 use bits::read;
+use grounds::JudgedBy;
 use paper::Judged;
 use paper::Opened;
 use paper::PenMove;
@@ -20,7 +21,9 @@ ghost use Rattle.paper.specs.Operations.{opened, bodyPart, judged, pointed, ste
 ghost use Rattle.paper.specs.Answers.{verdictAs};
 ghost use Rattle.paper.specs.Pen.{penned};
 ghost use Rattle.paper.specs.RunningSum.{runningSummed};
+ghost use Rattle.grounds.specs.Judged.{judgedBy};
 ghost use Rattle.cabi.specs.Numbers.{openNumbers, bodyEntry, bodyNumbers, judgeNumbers, pointNumbers, withoutPlace, stepNumbers};
+ghost use Rattle.cabi.specs.Numbers.{withoutPowers, withPowers, groundNumbers};
 ghost use Rattle.cabi.specs.Numbers.{verdictNumber, traceNumbers, isSet, withoutPoint, penNumbers, sumNumbers};
 
 #[repr(C)]
@@ -43,6 +46,20 @@ pub struct BodyAnswer {
 pub struct JudgeAnswer {
     pub refusal: u64,
     pub crossed: u64,
+}
+
+// Kind 0: not crossed, D is 0; 1: not crossed, the sign of `vertex` is against D by `power`; 2: crossed, the first n of power0 to power3.
+#[repr(C)]
+pub struct GroundAnswer {
+    pub refusal: u64,
+    pub kind: u64,
+    pub n: u64,
+    pub vertex: u64,
+    pub power: u64,
+    pub power0: u64,
+    pub power1: u64,
+    pub power2: u64,
+    pub power3: u64,
 }
 
 // In steps of 1/1024.
@@ -163,6 +180,64 @@ pub extern "C" fn gethwapiko_judge(job: &[u8], place: &[u8]) -> JudgeAnswer
             refusal: 0,
             crossed: 0,
         },
+    }
+}
+
+// Judge's answer with its ground where the facet is not crossed.
+fn without_powers(refusal: u64, kind: u64, vertex: u64, power: u64) -> GroundAnswer
+    ensures { λ r. ⌜ r ≡ withoutPowers refusal kind vertex power ⌝ }
+{
+    GroundAnswer {
+        refusal,
+        kind,
+        n: 0,
+        vertex,
+        power,
+        power0: 0,
+        power1: 0,
+        power2: 0,
+        power3: 0,
+    }
+}
+
+// The same where it is crossed.
+fn with_powers(n: u64, power0: u64, power1: u64, power2: u64, power3: u64) -> GroundAnswer
+    ensures { λ r. ⌜ r ≡ withPowers n power0 power1 power2 power3 ⌝ }
+{
+    GroundAnswer {
+        refusal: 0,
+        kind: 2,
+        n,
+        vertex: 0,
+        power: 0,
+        power0,
+        power1,
+        power2,
+        power3,
+    }
+}
+
+// Judge with its ground.
+#[no_mangle]
+pub extern "C" fn gethwapiko_judge_ground(job: &[u8], place: &[u8]) -> GroundAnswer
+    ensures { λ r. ⌜ r ≡ groundNumbers (judgedBy (now (job .entry)) (now (place .entry))) ⌝ }
+{
+    match deciding::judge_ground(job, place) {
+        JudgedBy::Refused(refusal) => without_powers(refusal, 0, 0, 0),
+        JudgedBy::ZeroDeterminant => without_powers(0, 0, 0, 0),
+        JudgedBy::Against { vertex, power } => without_powers(0, 1, vertex, power),
+        JudgedBy::Crossed2 { power0, power1 } => with_powers(2, power0, power1, 0, 0),
+        JudgedBy::Crossed3 {
+            power0,
+            power1,
+            power2,
+        } => with_powers(3, power0, power1, power2, 0),
+        JudgedBy::Crossed4 {
+            power0,
+            power1,
+            power2,
+            power3,
+        } => with_powers(4, power0, power1, power2, power3),
     }
 }
 

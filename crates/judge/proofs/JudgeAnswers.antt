@@ -1,4 +1,4 @@
--- What each return of Judge says, as the paper's answer.
+-- What each return of Judge says, as the paper's answer and as that of the form that names its ground.
 use mathlib.Core.Path.{_≡_, sym, ap, _∙_}
 use mathlib.Core.Bool.{Bool}
 use mathlib.Core.List.{List}
@@ -6,13 +6,19 @@ use Prim.Native.Nat.{ℕ}
 use lib.IntN.{ℤ}
 use Rattle.exact.specs.Crossed.{crossed}
 use Rattle.paper.specs.Job.{dimension, openRefusal, refuseIf}
-use Rattle.paper.specs.Operations.{refused, answered, crossedIn, facetOf, facetRefusal, placeBad, judged, judgeRefusal}
+use Rattle.paper.specs.Operations.{Answer, refused, answered, crossedIn, facetOf, facetRefusal, placeBad, judged, judgeRefusal}
 use Rattle.paper.proofs.Refusals.{first-refuses, unless-refused, unless-answered}
+use Rattle.grounds.specs.Judged.{judgedBy, plainly}
+use Rattle.grounds.proofs.Judged.{both-agree}
 use Rattle.job.specs.OpenJob.{JobOf}
 use Rattle.facets.specs.Cells.{facetColumns}
 use Rattle.judge.specs.declared.JobPlace.{JobPlace}
 use Rattle.judge.specs.Located.{PlaceFound}
 use Rattle.judge.proofs.PlaceCrossed.{crossed-is}
+
+-- both clauses of the contract follow from the first
+pub judge-clauses : (s p : List ℕ) {a : Answer Bool} → a ≡ judged s p → (a ≡ judged s p) × (a ≡ plainly (judgedBy s p))
+judge-clauses s p h = (h, h ∙ sym (both-agree s p))
 
 -- Open's refusal is Judge's
 pub judge-not-opened : (s p : List ℕ) → (openRefusal s ≡ 0 → ⊥) → judgeRefusal s p ≡ openRefusal s

@@ -8,6 +8,7 @@ use places::Vertex;
 ghost use mathlib.Core.Path.{_≡_};
 ghost use Rattle.paper.specs.Operations.{judged, pointed};
 ghost use Rattle.paper.specs.Answers.{judgedAs, pointedAs, paddedPoint};
+ghost use Rattle.grounds.specs.Judged.{judgedBy, plainly};
 ghost use Rattle.job.specs.OpenJob.{JobOf};
 ghost use Rattle.facets.specs.Cells.{Cells};
 ghost use Rattle.judge.specs.Located.{refusedPlace, PlaceFound, Crosses};
@@ -75,7 +76,8 @@ pub fn crossing_in(job: &[u8], n: usize, p: &[u8], cells: &mut [i64; 15]) -> Job
 
 // Judge: crossed or not crossed.
 pub fn judge(job: &[u8], place: &[u8]) -> Judged
-    ensures { λ r. ⌜ judgedAs r ≡ judged (now (job .entry)) (now (place .entry)) ⌝ }
+    ensures answer { λ r. ⌜ judgedAs r ≡ judged (now (job .entry)) (now (place .entry)) ⌝ }
+    ensures agrees { λ r. ⌜ judgedAs r ≡ plainly (judgedBy (now (job .entry)) (now (place .entry))) ⌝ }
 {
     let refusal = job::open_refusal(job);
     if refusal != 0 {

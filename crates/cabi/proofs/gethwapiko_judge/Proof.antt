@@ -20,15 +20,15 @@ enum-told-2 c = search needs
 
 returns : tie.Need-returns
 unfolding judgedAs judgeNumbers
-returns c = ap judgeNumbers (ap judgedAs (sym (c .before .refusal .given .1)) ∙ c .before .before .before .judge .ensures)
+returns c = ap judgeNumbers (ap judgedAs (sym (c .before .refusal .given .1)) ∙ c .before .before .before .judge .ensures .0)
 
 returns-2 : tie.Need-returns-2
 unfolding judgedAs judgeNumbers
-returns-2 c = ap judgeNumbers (ap judgedAs (sym (c .enum-told .given .1)) ∙ c .before .before .judge .ensures)
+returns-2 c = ap judgeNumbers (ap judgedAs (sym (c .enum-told .given .1)) ∙ c .before .before .judge .ensures .0)
 
 returns-3 : tie.Need-returns-3
 unfolding judgedAs judgeNumbers
-returns-3 c = ap judgeNumbers (ap judgedAs (sym (c .enum-told2 .given .1)) ∙ c .before .before .judge .ensures)
+returns-3 c = ap judgeNumbers (ap judgedAs (sym (c .enum-told2 .given .1)) ∙ c .before .before .judge .ensures .0)
 
 pub gethwapiko-judge-spec : {M : Type 1} → statement M
 gethwapiko-judge-spec =

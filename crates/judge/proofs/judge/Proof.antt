@@ -6,7 +6,7 @@ use Rattle.paper.specs.Answers.{judgedAs}
 use Rattle.job.specs.OpenJob.{JobOf}
 use Rattle.job.proofs.OpenJob.{job-axes, opened}
 use Rattle.columns.proofs.FacetColumns.{zero-cells}
-use Rattle.judge.proofs.JudgeAnswers.{judge-refused, judge-unopened, judge-answered}
+use Rattle.judge.proofs.JudgeAnswers.{judge-clauses, judge-refused, judge-unopened, judge-answered}
 use Rattle.judge.proofs.judge.Statement.{statement}
 use Rattle.judge.proofs.judge.Tie as tie
 
@@ -15,7 +15,7 @@ open-refusal-requires c κs = search needs
 
 returns : tie.Need-returns
 unfolding judgedAs
-returns c = judge-unopened _ _ _ (c .before .open-refusal .ensures) (c .if1 .taken)
+returns c = judge-clauses _ _ (judge-unopened _ _ _ (c .before .open-refusal .ensures) (c .if1 .taken))
 
 opened-dimension-requires : tie.Need-opened-dimension-requires
 opened-dimension-requires c κs = search needs
@@ -29,7 +29,7 @@ place-in-requires c κs = (job (c .before), zero-cells (job-axes (job (c .before
 
 returns-2 : tie.Need-returns-2
 unfolding judgedAs
-returns-2 c = judge-refused _ _ _ (c .before .before .place-in .ensures .number) (c .if2 .taken)
+returns-2 c = judge-clauses _ _ (judge-refused _ _ _ (c .before .before .place-in .ensures .number) (c .if2 .taken))
 
 crossed-requires : tie.Need-crossed-requires
 crossed-requires c κs = search needs
@@ -37,20 +37,22 @@ crossed-requires c κs = search needs
 returns-3 : tie.Need-returns-3
 unfolding judgedAs
 returns-3 c =
-    judge-answered true
+    judge-clauses _ _
+    (judge-answered true
     (job (c .before .before .before .before .before .before .before))
     (c .before .before .before .before .before .place-in .ensures)
     (c .before .before .before .if2 .left)
-    (sym (c .before .crossed .ensures) ∙ c .if3 .taken)
+    (sym (c .before .crossed .ensures) ∙ c .if3 .taken))
 
 returns-4 : tie.Need-returns-4
 unfolding judgedAs
 returns-4 c =
-    judge-answered false
+    judge-clauses _ _
+    (judge-answered false
     (job (c .before .before .before .before .before .before .before))
     (c .before .before .before .before .before .place-in .ensures)
     (c .before .before .before .if2 .left)
-    (sym (c .before .crossed .ensures) ∙ c .if3 .left)
+    (sym (c .before .crossed .ensures) ∙ c .if3 .left))
 
 pub judge-spec : {M : Type 1} → statement M
 judge-spec =
