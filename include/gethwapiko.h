@@ -6,7 +6,7 @@
  *
  * The field `refusal` is 0 or the number of the refusal; beside a refusal every other field is 0.
  * A field that an answer does not use is 0: terms2, z and mask2 in dimension 2, terms3, w and mask3 below dimension 4, the place of an
- * edge, the point of a close.
+ * edge, the point of a close, the vertex and the powers that a ground does not name.
  *
  * Refusals, in the order in which Open tests them; every other function opens the job first:
  *    1  fewer than 4 bytes                 5  contents cut short, bodies not adjacent, or a length wrong for its kind
@@ -55,6 +55,19 @@ typedef struct {
     uint64_t crossed; /* 1 crossed, 0 not */
 } JudgeAnswer;
 
+enum { GETHWAPIKO_ZERO_DETERMINANT = 0, GETHWAPIKO_VERTEX_AGAINST = 1, GETHWAPIKO_CROSSED = 2 };
+
+/* Vertices are numbered from 0 in chain order: vertex 0 is the lowest, vertex k has mask k. Powers are numbered from 0, and 0 is a power like
+ * others: kind and n say which fields count. */
+typedef struct {
+    uint64_t refusal;
+    uint64_t kind;   /* 0 not crossed, D is 0; 1 not crossed, a vertex is against D; 2 crossed */
+    uint64_t n;      /* kind 2: the dimension, the count of the powers below */
+    uint64_t vertex; /* kind 1: the first vertex whose sign is against D */
+    uint64_t power;  /* kind 1: the power whose coefficient decided it */
+    uint64_t power0, power1, power2, power3; /* kind 2: the power that decided each of the first n vertices */
+} GroundAnswer;
+
 typedef struct {
     uint64_t refusal;
     int64_t x, y, z, w; /* in steps of 1/1024, to the nearest, a half to the even count */
@@ -99,6 +112,11 @@ BodyAnswer gethwapiko_body(const uint8_t *job, size_t job_length, uint64_t index
 
 /* Judge: whether the place's facet is crossed. Refusals 13, 9, 10. */
 JudgeAnswer gethwapiko_judge(const uint8_t *job, size_t job_length, const uint8_t *place, size_t place_length);
+
+/* Judge with its ground: why the place's facet is crossed or not. A vertex's sign is that of its first coefficient, in rising powers, that is
+ * not 0, and that power decides it: a power is named only if all lower coefficients are 0. Whoever reads D, the powers named and their
+ * coefficients reaches gethwapiko_judge's answer, which is always kind == 2. Refusals 13, 9, 10. */
+GroundAnswer gethwapiko_judge_ground(const uint8_t *job, size_t job_length, const uint8_t *place, size_t place_length);
 
 /* Point: where the curve crosses the place's facet, on each axis to the nearest step: 1/2048 of a unit is 0 steps, 3/2048 is 2, -1/2048 is 0.
  * Refusals 13, 9, 10, 11. */

@@ -10,8 +10,8 @@ use Rattle.paper.proofs.Bodies.{body-given, given-part}
 use Rattle.paper.proofs.Refusals.{unless-refused, unless-answered}
 use Rattle.contents.specs.Parts.{PartInside}
 use Rattle.contents.proofs.EntrySteps.{contents-part}
-use Rattle.cabi.specs.declared.BodyAnswer.{BodyAnswer}
-use Rattle.cabi.specs.Numbers.{bodyEntry, bodyNumbers}
+use Rattle.numbers.specs.declared.BodyAnswer.{BodyAnswer}
+use Rattle.numbers.specs.Numbers.{bodyEntry, bodyNumbers}
 
 module _ (s : List ℕ) (k : ℕ) where
   pub refused-entry : {r : ℕ} → r ≡ bodyRefusal s k → (r ≡ 0 → ⊥)

@@ -6,6 +6,7 @@
 
 use reference::build::place;
 use reference::grid::{vertex, Vertex};
+use reference::ground::Ground;
 use reference::limits::MOST;
 use reference::operations::{Move, Step, Verdict};
 use reference::product::Product;
@@ -33,6 +34,20 @@ struct BodyAnswer {
 struct JudgeAnswer {
     refusal: u64,
     crossed: u64,
+}
+
+#[repr(C)]
+#[derive(Clone, Copy, PartialEq, Debug)]
+struct GroundAnswer {
+    refusal: u64,
+    kind: u64,
+    n: u64,
+    vertex: u64,
+    power: u64,
+    power0: u64,
+    power1: u64,
+    power2: u64,
+    power3: u64,
 }
 
 #[repr(C)]
@@ -94,6 +109,12 @@ extern "C" {
         place: *const u8,
         place_len: usize,
     ) -> JudgeAnswer;
+    fn gethwapiko_judge_ground(
+        job: *const u8,
+        job_len: usize,
+        place: *const u8,
+        place_len: usize,
+    ) -> GroundAnswer;
     fn gethwapiko_point(
         job: *const u8,
         job_len: usize,
@@ -186,6 +207,32 @@ impl Product for Library {
         let a = unsafe { gethwapiko_judge(job.as_ptr(), job.len(), place.as_ptr(), place.len()) };
         refused(a.refusal, a.crossed == 0)?;
         Ok(mark(a.crossed))
+    }
+
+    #[inline]
+    fn judge_ground(&self, job: &[u8], place: &[u8]) -> Result<Ground, u8> {
+        let a = unsafe {
+            gethwapiko_judge_ground(job.as_ptr(), job.len(), place.as_ptr(), place.len())
+        };
+        let (named, powers) = ([a.vertex, a.power], [a.power0, a.power1, a.power2, a.power3]);
+        let no_vertex = named == [0; 2];
+        let no_powers = a.n == 0 && powers == [0; 4];
+        refused(a.refusal, a.kind == 0 && no_vertex && no_powers)?;
+        match a.kind {
+            0 => {
+                assert!(no_vertex && no_powers);
+                Ok(Ground::ZeroDeterminant)
+            }
+            1 => {
+                assert!(no_powers);
+                Ok(Ground::Against { vertex: a.vertex, power: a.power })
+            }
+            2 => {
+                assert!(no_vertex && a.n == dimension(job) as u64);
+                Ok(Ground::Crossed { powers: used(dimension(job), &powers).to_vec() })
+            }
+            _ => panic!("no kind {}", a.kind),
+        }
     }
 
     #[inline]

@@ -31,7 +31,7 @@ impl<A: PartialEq + Debug> OnPlaces<A> {
     }
 
     /// Compares the two answers; gives what they are.
-    fn compare(&self, job: &[u8], place: &[u8]) -> Result<A, u8> {
+    pub fn compare(&self, job: &[u8], place: &[u8]) -> Result<A, u8> {
         let wanted = (self.reference)(job, place);
         assert_eq!((self.library)(job, place), wanted, "{place:?} in {job:?}");
         wanted

@@ -1,5 +1,5 @@
-//! Cases A to J, their like in dimension 4 and at a bias, running sums, halves of a step, and the
-//! wrong turns on the proved library.
+//! Cases A to J, their like in dimension 4 and at a bias, running sums, halves of a step, grounds,
+//! and the wrong turns on the proved library.
 
 use library::ffi::Library;
 use reference::marked;
@@ -27,6 +27,11 @@ fn running_sums() {
 #[test]
 fn nearest_step() {
     marked::nearest_step(&Library);
+}
+
+#[test]
+fn grounds() {
+    marked::grounds(&Library);
 }
 
 #[test]

@@ -1,5 +1,6 @@
 //! "The grid": masks, vertices, simplices, facets, places, over any n up to `MOST`.
 
+use std::collections::BTreeSet;
 use std::sync::OnceLock;
 
 use crate::cartesian::cartesian;
@@ -123,6 +124,12 @@ pub fn chains(n: usize) -> &'static [Masks] {
         all.retain(|masks| is_chain(n, &masks[..n - 1]));
         all
     })
+}
+
+/// Every facet of the simplices of a unit cube, by the cube's lowest vertex.
+pub fn facets_of_cube(n: usize, corner: &Vertex) -> BTreeSet<Facet> {
+    let simplices = orders(n).iter().map(|order| Simplex { corner: *corner, order });
+    simplices.flat_map(|simplex| (0..=n).map(move |i| simplex.facet(i))).collect()
 }
 
 impl Facet {
@@ -266,7 +273,6 @@ impl Place {
 mod tests {
     use super::*;
     use crate::limits::DIMENSIONS;
-    use std::collections::BTreeSet;
 
     /// A vertex away from the origin.
     fn somewhere(n: usize) -> Vertex {
@@ -299,6 +305,22 @@ mod tests {
             assert_eq!(facets.collect::<BTreeSet<_>>(), chains(n).iter().copied().collect());
             let lists: Vec<Masks> = cartesian(&vec![bytes.clone(); n - 1]);
             assert_eq!(lists.iter().filter(|list| is_chain(n, &list[..n - 1])).count(), count);
+        }
+    }
+
+    /// The facets of a cube are those whose vertices are vertices of the cube.
+    #[test]
+    fn facets_of_a_cube_are_all() {
+        for (n, count) in DIMENSIONS.into_iter().zip([5, 18, 84]) {
+            let corner = somewhere(n);
+            let all = facets_of_cube(n, &corner);
+            assert_eq!(all.len(), count);
+            let lowest = (0..1 << n).map(|mask| above(&corner, mask));
+            let facets = lowest
+                .flat_map(|lowest| chains(n).iter().map(move |&masks| Facet { n, lowest, masks }));
+            let in_cube = |v: &Vertex| (0..n).all(|k| v[k] - corner[k] <= 1);
+            let inside = facets.filter(|facet| facet.vertices()[..n].iter().all(in_cube));
+            assert_eq!(inside.collect::<BTreeSet<_>>(), all);
         }
     }
 

@@ -14,6 +14,8 @@ pub mod crossed;
 pub mod curve;
 pub mod generate;
 pub mod grid;
+pub mod ground;
+pub mod grounds_met;
 pub mod job;
 pub mod limits;
 pub mod listing;

@@ -1,9 +1,10 @@
 //! "Marked cases" A to J, their like in dimension 4 and at a bias, running sums, halves of a step,
-//! and the wrong turns, as checks of any product.
+//! grounds, and the wrong turns, as checks of any product.
 
 use crate::build::{case_a, case_c, exponents, gathered, place, power_of, term, Parts};
 use crate::crossed::Term;
 use crate::grid::{vertex, Place};
+use crate::ground::{holds, names_the_first, says_crossed, Coefficients, Ground};
 use crate::limits::{Limits, DIMENSIONS};
 use crate::operations::{with_start, Move, Step, Verdict};
 use crate::product::Product;
@@ -664,6 +665,183 @@ fn close_to_halves(p: &dyn Product) {
                 assert_moves_to(p, &job, &start, 0, &[steps]);
             }
         }
+    }
+}
+
+/// Request 2.9: Judge with its ground.
+pub fn grounds(p: &dyn Product) {
+    for (values, ground) in [
+        // F, G, H: values 0 and 1, 0 and -1, 0 and 0; then the like the other way round.
+        ([0, 1], crossed_by(&[0, 1])),
+        ([0, -1], against(1, 1)),
+        ([0, 0], Ground::ZeroDeterminant),
+        ([1, 0], crossed_by(&[1, 0])),
+        ([-1, 0], against(0, 1)),
+        // No tie.
+        ([-1, 1], crossed_by(&[0, 0])),
+        ([1, -1], crossed_by(&[0, 0])),
+        ([1, 2], against(1, 0)),
+        ([2, 1], against(0, 0)),
+        ([-1, -2], against(1, 0)),
+        ([-2, -1], against(0, 0)),
+        ([5, 5], Ground::ZeroDeterminant),
+    ] {
+        ground_between_two(p, 0, values, values, ground);
+    }
+    // At bias 1, and at bias 0: both are crossed there without a tie.
+    for (values, counted, ground) in
+        [([-1, 2], [0, 2], crossed_by(&[0, 1])), ([1, -2], [0, -2], against(1, 1))]
+    {
+        ground_between_two(p, 1, values, counted, ground);
+        ground_between_two(p, 0, values, values, crossed_by(&[0, 0]));
+    }
+    // A: at bias 1 the values -1 and 1 of its start both count as 0, and D is 0.
+    let a = Parts { bias: 1, ..case_a() };
+    let judged = p.judge_ground(&a.bytes(), &a.start.bytes());
+    assert_eq!(judged, Ok(Ground::ZeroDeterminant));
+    grounds_of_case_c(p);
+    grounds_of_ties(p);
+    refusals_of_grounds(p);
+}
+
+fn against(vertex: u64, power: u64) -> Ground {
+    Ground::Against { vertex, power }
+}
+
+fn crossed_by(powers: &[u64]) -> Ground {
+    Ground::Crossed { powers: powers.to_vec() }
+}
+
+/// D and the coefficients by vertex and power, worked out by hand.
+type ByHand<'a> = (i128, &'a [&'a [i128]]);
+
+/// The product names the ground, which holds by D and these coefficients; Judge agrees.
+fn assert_ground(
+    p: &dyn Product,
+    parts: &Parts,
+    place: &Place,
+    (d, coefficients): ByHand,
+    ground: Ground,
+) {
+    let (job, bytes) = (parts.bytes(), place.bytes());
+    assert_eq!(p.judge_ground(&job, &bytes), Ok(ground.clone()), "{place:?} in {job:?}");
+    assert_eq!(p.judge(&job, &bytes), Ok(says_crossed(&ground)));
+    let by_vertex = coefficients.iter().map(|of_vertex| of_vertex.to_vec()).collect();
+    let by_hand = Coefficients { d, by_vertex };
+    assert!(holds(&ground, &by_hand) && names_the_first(&ground, &by_hand), "{ground:?}");
+    assert_eq!(Coefficients::of_facet(&parts.opened(), &place.facet), Ok(by_hand));
+}
+
+/// For n = 2 and values a, b: D is b - a. With (1, e) in place of the first column the determinant
+/// is b - e, in place of the second e - a.
+fn ground_between_two(
+    p: &dyn Product,
+    bias: u8,
+    sums: [i64; 2],
+    counted: [i64; 2],
+    ground: Ground,
+) {
+    let [low, high] = sums;
+    let line = gathered(&[term(low, &[]), term(high - low, &[1]), term(1, &[0, 1])]);
+    let parts = Parts { bias, polynomials: vec![line], ..case_a() };
+    let [a, b] = counted.map(i128::from);
+    let coefficients: &[&[i128]] = &[&[b, -1], &[-a, 1]];
+    assert_ground(p, &parts, &place(&[0, 0], &[1], 0), (b - a, coefficients), ground);
+}
+
+/// C's start, and E: C's facet with masks 2 3; both in dimension 4 too.
+fn grounds_of_case_c(p: &dyn Product) {
+    // Values 0 0, 1 0, 1 1: weights 1 - e, e - e^2, e^2.
+    let start: &[&[i128]] = &[&[1, -1, 0], &[0, 1, -1], &[0, 0, 1]];
+    assert_ground(p, &case_c(3), &case_c(3).start, (1, start), crossed_by(&[0, 1, 2]));
+    // E. Values 0 0, 0 1, 1 1: weights 1 - e^2, e^2 - e, e, each times D.
+    let e = place(&[0, 0, 0], &[2, 3], 0);
+    let coefficients: &[&[i128]] = &[&[-1, 0, 1], &[0, 1, -1], &[0, -1, 0]];
+    assert_ground(p, &case_c(3), &e, (-1, coefficients), against(1, 1));
+    // Values 0 0 0, 1 0 0, 1 1 0, 1 1 1: weights 1 - e, e - e^2, e^2 - e^3, e^3.
+    let start: &[&[i128]] = &[&[1, -1, 0, 0], &[0, 1, -1, 0], &[0, 0, 1, -1], &[0, 0, 0, 1]];
+    assert_ground(p, &case_c(4), &case_c(4).start, (1, start), crossed_by(&[0, 1, 2, 3]));
+    // Values 0 0 0, 0 1 0, 1 1 0, 1 1 1: weights 1 - e^2, e^2 - e, e - e^3, e^3, each times D.
+    let e = place(&[0, 0, 0, 0], &[2, 3, 7], 0);
+    let coefficients: &[&[i128]] =
+        &[&[-1, 0, 1, 0], &[0, 1, -1, 0], &[0, -1, 0, 1], &[0, 0, 0, -1]];
+    assert_ground(p, &case_c(4), &e, (-1, coefficients), against(1, 1));
+}
+
+/// The start of case C with 2 x - y - 1 in place of x and, in dimension 4, y - z in place of y,
+/// each polynomial times one of the signs. With signs 1 the values are -1 0, 1 0, 0 1, and in
+/// dimension 4 -1 0 0, 1 0 0, 0 1 0, 0 0 1: 0 lies between the first two.
+fn tied(signs: &[i64]) -> Parts {
+    let mut parts = case_c(signs.len() + 1);
+    parts.polynomials[0] = vec![term(-1, &[]), term(-1, &[0, 1]), term(2, &[1])];
+    if let [_, second, _] = &mut parts.polynomials[..] {
+        *second = vec![term(-1, &[0, 0, 1]), term(1, &[0, 1])];
+    }
+    for (polynomial, sign) in parts.polynomials.iter_mut().zip(signs) {
+        polynomial.iter_mut().for_each(|t| t.coefficient *= sign);
+    }
+    parts
+}
+
+/// Vertices 0 and 1 share what vertex 2 leaves of the weight, whose sign is by power 2; in dimension
+/// 4 that of vertex 3 is by power 3.
+fn grounds_of_ties(p: &dyn Product) {
+    let ties: [(&[i64], ByHand, Ground); 7] = [
+        (&[1, 1], (2, &[&[1, -1, -1], &[1, 1, -1], &[0, 0, 2]]), crossed_by(&[0, 0, 2])),
+        (&[-1, 1], (-2, &[&[-1, -1, 1], &[-1, 1, 1], &[0, 0, -2]]), crossed_by(&[0, 0, 2])),
+        (&[1, -1], (-2, &[&[-1, 1, -1], &[-1, -1, -1], &[0, 0, 2]]), against(2, 2)),
+        (
+            &[1, 1, 1],
+            (2, &[&[1, -1, -1, -1], &[1, 1, -1, -1], &[0, 0, 2, 0], &[0, 0, 0, 2]]),
+            crossed_by(&[0, 0, 2, 3]),
+        ),
+        (
+            &[1, 1, -1],
+            (-2, &[&[-1, 1, 1, -1], &[-1, -1, 1, -1], &[0, 0, -2, 0], &[0, 0, 0, 2]]),
+            against(3, 3),
+        ),
+        (
+            &[1, -1, 1],
+            (-2, &[&[-1, 1, -1, 1], &[-1, -1, -1, 1], &[0, 0, 2, 0], &[0, 0, 0, -2]]),
+            against(2, 2),
+        ),
+        // Vertex 3 is against D as well.
+        (
+            &[1, -1, -1],
+            (2, &[&[1, -1, 1, 1], &[1, 1, 1, 1], &[0, 0, -2, 0], &[0, 0, 0, -2]]),
+            against(2, 2),
+        ),
+    ];
+    for (signs, by_hand, ground) in ties {
+        let parts = tied(signs);
+        assert_ground(p, &parts, &parts.start, by_hand, ground);
+    }
+}
+
+/// The refusals are Judge's: Open's, then 13, 9, 10. 1,048,576 x^2 is not readable at 17.
+fn refusals_of_grounds(p: &dyn Product) {
+    let parts = Parts {
+        ends: vec![(0, 17), (0, 1)],
+        polynomials: vec![vec![term(1_048_576, &[2])]],
+        ..case_a()
+    };
+    let job = parts.bytes();
+    let along_x = |x: i64| place(&[x, 0], &[1], 0).bytes();
+    let cut = &along_x(17)[..5];
+    for (job, place, answer) in [
+        (&job[..3], cut, Err(1)),
+        (&job[..], cut, Err(13)),
+        (&job[..], &place(&[17, 0], &[1], 2).bytes(), Err(13)),
+        (&job[..], &place(&[17, 0], &[4], 0).bytes(), Err(13)),
+        (&job[..], &along_x(17), Err(9)),
+        (&job[..], &along_x(-1), Err(9)),
+        (&job[..], &along_x(16), Err(10)),
+        (&job[..], &place(&[17, 0], &[2], 0).bytes(), Err(10)),
+        (&job[..], &along_x(15), Ok(against(1, 0))),
+        (&job[..], &along_x(0), Ok(crossed_by(&[0, 1]))),
+    ] {
+        assert_eq!(p.judge_ground(job, place), answer, "{place:?}");
+        assert_eq!(p.judge(job, place), answer.map(|ground| says_crossed(&ground)));
     }
 }
 

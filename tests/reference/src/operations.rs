@@ -48,7 +48,7 @@ pub fn sums(job: &Job, vertices: &[Vertex]) -> Option<Vec<i128>> {
 }
 
 /// 9 a vertex outside the box; 10 a vertex value not readable; else the columns of the facet.
-fn facet_columns(job: &Job, facet: &Facet) -> Result<[Column; MOST + 1], u8> {
+pub fn facet_columns(job: &Job, facet: &Facet) -> Result<[Column; MOST + 1], u8> {
     columns(job, &facet.vertices()[..job.n]).map_err(|unfit| match unfit {
         Unfit::Outside => 9,
         Unfit::Unreadable => 10,

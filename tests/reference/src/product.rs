@@ -2,6 +2,7 @@
 //! on the proved library alike.
 
 use crate::grid::Vertex;
+use crate::ground::{self, Ground};
 use crate::job;
 use crate::limits::MOST;
 use crate::operations::{self, Move, Step, Verdict};
@@ -13,6 +14,8 @@ pub trait Product {
     /// Offset and length of the part of the job that holds the body.
     fn body(&self, job: &[u8], index: u64) -> Result<(usize, usize), u8>;
     fn judge(&self, job: &[u8], place: &[u8]) -> Result<bool, u8>;
+    /// Judge, with its ground.
+    fn judge_ground(&self, job: &[u8], place: &[u8]) -> Result<Ground, u8>;
     /// Steps by axis; 0 above axis n.
     fn point(&self, job: &[u8], place: &[u8]) -> Result<Vertex, u8>;
     fn step(&self, job: &[u8], place: &[u8]) -> Result<Step, u8>;
@@ -41,6 +44,9 @@ impl Product for Reference {
     }
     fn judge(&self, job: &[u8], place: &[u8]) -> Result<bool, u8> {
         operations::judge(job, place)
+    }
+    fn judge_ground(&self, job: &[u8], place: &[u8]) -> Result<Ground, u8> {
+        ground::judge_ground(job, place)
     }
     fn point(&self, job: &[u8], place: &[u8]) -> Result<Vertex, u8> {
         operations::point(job, place)

@@ -34,6 +34,9 @@ macro_rules! named {
 /// A refusal's number, or another answer's name.
 pub type Answer = Result<&'static str, u8>;
 
+/// A number for each dimension.
+pub type ByDimension = [u64; DIMENSIONS.len()];
+
 /// How often each was met, by dimension.
 pub struct Tally<T>(BTreeMap<usize, BTreeMap<T, u64>>);
 

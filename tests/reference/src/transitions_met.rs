@@ -10,7 +10,7 @@ use crate::grid::{orders, Facet, Place, Vertex};
 use crate::job::Job;
 use crate::limits::{DIMENSIONS, MOST};
 use crate::operations::Verdict;
-use crate::tally::Tally;
+use crate::tally::{ByDimension, Tally};
 
 /// The axes in the order of a simplex; entries above n are 0.
 type Order = [usize; MOST];
@@ -161,9 +161,6 @@ fn each_end(n: usize) -> Vec<End> {
     }
     all
 }
-
-/// A number for each dimension.
-pub type ByDimension = [u64; DIMENSIONS.len()];
 
 /// Counts along traces.
 #[derive(Default)]

@@ -1,5 +1,5 @@
-//! Cases A to J, their like in dimension 4 and at a bias, running sums, halves of a step, and the
-//! wrong turns on the reference.
+//! Cases A to J, their like in dimension 4 and at a bias, running sums, halves of a step, grounds,
+//! and the wrong turns on the reference.
 
 use reference::build::{case_a, case_c};
 use reference::listing::listing;
@@ -29,6 +29,11 @@ fn running_sums() {
 #[test]
 fn nearest_step() {
     marked::nearest_step(&Reference);
+}
+
+#[test]
+fn grounds() {
+    marked::grounds(&Reference);
 }
 
 #[test]

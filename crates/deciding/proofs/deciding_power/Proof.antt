@@ -27,7 +27,7 @@ sign-is :
 sign-is c = c .sign-of .ensures ∙ ap (λ z. signNumber (sign z)) (holds-call (c .before .coefficient .ensures) (lit≤ tt) .is)
 
 loop-holds : tie.Need-loop-holds Inv-loop μ-loop
-loop-holds c = (omega arith, λ k l. absurd (omega arith))
+loop-holds c = (omega (arith, c .pre .0 .axes .low), λ k l. absurd (omega arith))
 
 coefficient-requires : tie.Need-coefficient-requires Inv-loop μ-loop
 coefficient-requires c κs = (c .before .before .pre .0, (omega arith, (c .before .before .pre .1, c .loop-test .taken)))

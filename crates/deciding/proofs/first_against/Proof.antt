@@ -36,7 +36,7 @@ sign-is :
 sign-is c = same-sign _ _ _ (c .sign-of .ensures) (c .before .coefficient .ensures) (c .before .before .deciding-power .ensures)
 
 loop-holds : tie.Need-loop-holds Inv-loop μ-loop
-loop-holds c = (omega arith, none-before _ _)
+loop-holds c = (omega (arith, c .pre .0 .axes .low), none-before _ _)
 
 deciding-power-requires : tie.Need-deciding-power-requires Inv-loop μ-loop
 deciding-power-requires c κs = (c .before .before .pre .0, c .loop-test .taken)

@@ -1,6 +1,7 @@
 -- `deciding::ground` meets its contract: what is returned is a ground that holds and names the first vertex, and there is only one.
 use borrow.Author.Needs.{needs}
 use mathlib.Core.Path.{_≡_, sym, ap, _∙_}
+use native.Mathlib.Omega.{arith}
 use lib.Dec.{lit≤}
 use Rattle.exact.specs.Sign.{sign}
 use Rattle.exact.specs.Det.{determinant}
@@ -39,7 +40,9 @@ deciding-power-requires c κs = search needs
 
 returns-2 : tie.Need-returns-2
 unfolding judgedByAs
-returns-2 c = against-ground _ _ (c .before .before .first-against .ensures) (c .before .if2 .taken) (c .deciding-power .ensures)
+returns-2 c =
+    against-ground _ _ (c .before .before .first-against .ensures)
+    (omega (arith, c .before .if2 .taken, c .before .before .before .before .before .before .pre .axes .low)) (c .deciding-power .ensures)
 
 crossed-by-requires : tie.Need-crossed-by-requires
 crossed-by-requires c κs = search needs
@@ -48,7 +51,7 @@ returns-3 : tie.Need-returns-3
 returns-3 c =
     let determined = c .before .before .before in
     c .crossed-by .ensures
-    ∙ with-ground _ _ (λ z. determined .if1 .left (side-is (determined .before) ∙ zero-number _ z)) (c .before .before .first-against .ensures) (c .before .if2 .left)
+    ∙ with-ground _ _ (λ z. determined .if1 .left (side-is (determined .before) ∙ zero-number _ z)) (c .before .before .first-against .ensures) (omega (arith, c .before .if2 .left))
 
 pub ground-spec : {M : Type 1} → statement M
 ground-spec =

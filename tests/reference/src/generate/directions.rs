@@ -1,4 +1,4 @@
-//! Jobs for how traces go from one simplex to the next and where they end.
+//! Jobs for how traces go from one simplex to the next and where they end, and for ties.
 
 use super::kinds::{choose_start, through, valid_of, vertex_in, Ends, Kind};
 use super::random::Random;
@@ -29,11 +29,26 @@ fn any_bias(r: &mut Random) -> u8 {
     r.pick(&[0, 0, 0, 1, small, 255])
 }
 
+/// How the sums at the vertices of a cube are chosen.
+struct Chosen {
+    /// Their sizes are taken from one of these lists, in which a size may repeat.
+    sizes: &'static [&'static [i64]],
+    /// Once in so many times one is at the readable limit or past it.
+    at_limit: u64,
+}
+
+/// For the ways through simplices.
+const FOR_WAYS: Chosen =
+    Chosen { sizes: &[&[0, 1], &[0, 1, 1], &[0, 1, 1, 2, 2], &[0, 1, 2, 3, 4]], at_limit: 3 };
+
+/// For ties: most are -1, 0 or 1, about half of them 0.
+const FOR_TIES: Chosen = Chosen { sizes: &[&[0, 1], &[0, 0, 1], &[0, 0, 1, 1, 2]], at_limit: 40 };
+
 /// Sums at the vertices of a cube, by the masks of these; many are 0 or count as 0. Now and then
 /// one is at the readable limit or past it, where a coefficient can be as large.
-fn some_sums(r: &mut Random, n: usize, bias: u8) -> Vec<i64> {
+fn some_sums(r: &mut Random, n: usize, bias: u8, chosen: &Chosen) -> Vec<i64> {
     let bias = bias as i64;
-    let sizes = r.pick(&[&[0, 1][..], &[0, 1, 1], &[0, 1, 1, 2, 2], &[0, 1, 2, 3, 4]]);
+    let sizes = r.pick(chosen.sizes);
     let is_multiple = r.once_in(2);
     let sum = |r: &mut Random| match r.pick(sizes) * r.pick(&[1, -1]) {
         0 => r.between(-bias, bias),
@@ -42,7 +57,7 @@ fn some_sums(r: &mut Random, n: usize, bias: u8) -> Vec<i64> {
     };
     let mut sums: Vec<i64> = (0..1 << n).map(|_| sum(r)).collect();
     let limit = Limits::of(n).readable as i64;
-    if limit < LARGEST_COEFFICIENT && r.once_in(3) {
+    if limit < LARGEST_COEFFICIENT && r.once_in(chosen.at_limit) {
         sums[r.index(1 << n)] = r.pick(&[limit, limit + 1, -limit - 1]);
     }
     sums
@@ -84,19 +99,31 @@ fn before(r: &mut Random, parts: &Parts, place: &Place) -> Place {
     places[places.len() - 1].turned()
 }
 
-/// Chosen values in a cube, in a box that is not much larger.
-fn in_cube(r: &mut Random, n: usize) -> Parts {
+/// Chosen values in a cube, in a box that is not much larger; and the corner of the cube. The start
+/// is any facet of it.
+fn with_chosen_values(r: &mut Random, n: usize, chosen: &Chosen) -> (Vertex, Parts) {
     loop {
         let (corner, bias) = (vertex_in(r, &vec![(-2, 1); n]), any_bias(r));
         let polynomials: Vec<Vec<Term>> =
-            (1..n).map(|_| through_cube(&corner, &some_sums(r, n, bias))).collect();
+            (1..n).map(|_| through_cube(&corner, &some_sums(r, n, bias, chosen))).collect();
         let mut around = |low: i64| (low - r.pick(&[0, 1, 1, 2]), low + r.pick(&[1, 2, 2, 3]));
         let ends = corner[..n].iter().map(|&low| around(low)).collect();
-        let any = Place { facet: Facet { n, lowest: corner, masks: chains(n)[0] }, side: 0 };
-        let mut parts = Parts { n, bias, ends, polynomials, start: any };
-        if !parts.polynomials.iter().all(|terms| within_limits(terms)) {
-            continue;
+        if polynomials.iter().all(|terms| within_limits(terms)) {
+            let start = Place { facet: Facet { n, lowest: corner, masks: chains(n)[0] }, side: 0 };
+            return (corner, Parts { n, bias, ends, polynomials, start });
         }
+    }
+}
+
+/// A job with many ties at the vertices of a unit cube, and the cube's lowest vertex.
+pub fn with_many_ties(r: &mut Random, n: usize) -> (Vertex, Parts) {
+    with_chosen_values(r, n, &FOR_TIES)
+}
+
+/// Such a job with a start on a curve through the cube.
+fn in_cube(r: &mut Random, n: usize) -> Parts {
+    loop {
+        let (corner, mut parts) = with_chosen_values(r, n, &FOR_WAYS);
         if let Some(place) = crossed_in_cube(r, &parts, &corner) {
             parts.start = if r.once_in(4) { place } else { before(r, &parts, &place) };
             return parts;
@@ -199,10 +226,10 @@ mod tests {
     use super::*;
     use crate::crossed::sum;
     use crate::generate::kinds::valid_in;
-    use crate::grid::above;
+    use crate::grid::{above, facets_of_cube};
     use crate::job::open;
     use crate::limits::DIMENSIONS;
-    use crate::operations::Verdict;
+    use crate::operations::{facet_columns, Verdict};
     use crate::tally::{Named, Tally};
 
     /// The polynomial has the sums at all vertices of the cube.
@@ -212,13 +239,42 @@ mod tests {
             let mut r = Random::new(40);
             for bias in 0..=255 {
                 let corner = vertex_in(&mut r, &vec![(-5, 5); n]);
-                let sums = some_sums(&mut r, n, bias);
-                let terms = through_cube(&corner, &sums);
-                for (mask, &wanted) in sums.iter().enumerate() {
-                    assert_eq!(sum(&terms, &above(&corner, mask as u8)), wanted as i128);
+                for chosen in [FOR_WAYS, FOR_TIES] {
+                    let sums = some_sums(&mut r, n, bias, &chosen);
+                    let terms = through_cube(&corner, &sums);
+                    for (mask, &wanted) in sums.iter().enumerate() {
+                        assert_eq!(sum(&terms, &above(&corner, mask as u8)), wanted as i128);
+                    }
                 }
             }
         }
+    }
+
+    /// Jobs with many ties open, and the cube lies in the box: of its facets none is refused but
+    /// for values that are not readable. Values that are not 0 are mostly -1 and 1 at bias 0.
+    #[test]
+    fn cubes_have_many_ties() {
+        let (mut answers, mut values) = (Tally::default(), Tally::default());
+        for n in DIMENSIONS {
+            let mut r = Random::new(48);
+            for _ in 0..300 {
+                let (corner, parts) = with_many_ties(&mut r, n);
+                let job = open(&parts.bytes()).expect("a valid job");
+                for facet in facets_of_cube(n, &corner) {
+                    answers.count(n, facet_columns(&job, &facet).map(|_| ()));
+                }
+                let at = (0..1 << n).filter(|_| job.bias == 0).map(|mask| above(&corner, mask));
+                let sums = at.flat_map(|v| job.polynomials.iter().map(move |p| sum(p, &v).abs()));
+                sums.for_each(|size| values.count(n, size.min(2)));
+            }
+        }
+        answers.assert_met_in(2, &[Ok(())]);
+        answers.assert_met_in(3, &[Ok(())]);
+        answers.assert_met_in(4, &[Ok(()), Err(10)]);
+        values.assert_met(&[0, 1, 2]);
+        values.assert_often_in(2, 200, &[0, 1]);
+        values.assert_often_in(3, 1_000, &[0, 1]);
+        values.assert_often_in(4, 3_000, &[0, 1]);
     }
 
     /// What Trace answers from the two sides of the start, without the places.

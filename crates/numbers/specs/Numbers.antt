@@ -16,15 +16,15 @@ use Rattle.paper.specs.Job.{entryOffset, entryLength}
 use Rattle.paper.specs.Operations.{Answer, refused, answered, unless, bodyRefusal}
 use Rattle.paper.specs.Pen.{Move, lift, draw, close}
 use Rattle.grounds.specs.Ground.{Ground, zeroDeterminant, vertexAgainst, allWith}
-use Rattle.cabi.specs.declared.OpenAnswer.{OpenAnswer}
-use Rattle.cabi.specs.declared.BodyAnswer.{BodyAnswer}
-use Rattle.cabi.specs.declared.JudgeAnswer.{JudgeAnswer}
-use Rattle.cabi.specs.declared.GroundAnswer.{GroundAnswer}
-use Rattle.cabi.specs.declared.PointAnswer.{PointAnswer}
-use Rattle.cabi.specs.declared.StepAnswer.{StepAnswer}
-use Rattle.cabi.specs.declared.TraceAnswer.{TraceAnswer}
-use Rattle.cabi.specs.declared.PenAnswer.{PenAnswer}
-use Rattle.cabi.specs.declared.SumAnswer.{SumAnswer}
+use Rattle.numbers.specs.declared.OpenAnswer.{OpenAnswer}
+use Rattle.numbers.specs.declared.BodyAnswer.{BodyAnswer}
+use Rattle.numbers.specs.declared.JudgeAnswer.{JudgeAnswer}
+use Rattle.numbers.specs.declared.GroundAnswer.{GroundAnswer}
+use Rattle.numbers.specs.declared.PointAnswer.{PointAnswer}
+use Rattle.numbers.specs.declared.StepAnswer.{StepAnswer}
+use Rattle.numbers.specs.declared.TraceAnswer.{TraceAnswer}
+use Rattle.numbers.specs.declared.PenAnswer.{PenAnswer}
+use Rattle.numbers.specs.declared.SumAnswer.{SumAnswer}
 
 -- n and each polynomial's count of terms
 unfoldable pub openNumbers : Answer (List ℕ) → OpenAnswer

@@ -1,11 +1,11 @@
--- `cabi::verdict_number` meets its contract: each constructor has its number.
+-- `numbers::verdict_number` meets its contract: each constructor has its number.
 use mathlib.Core.Path.{sym, ap}
 use Rattle.paper.specs.declared.Verdict.{Verdict}
 use Rattle.paper.specs.Answers.{verdictAs}
-use Rattle.cabi.specs.Numbers.{verdictNumber}
+use Rattle.numbers.specs.Numbers.{verdictNumber}
 use borrow.Author.Needs.{needs}
-use Rattle.cabi.proofs.verdict_number.Statement.{statement}
-use Rattle.cabi.proofs.verdict_number.Tie as tie
+use Rattle.numbers.proofs.verdict_number.Statement.{statement}
+use Rattle.numbers.proofs.verdict_number.Tie as tie
 
 enum-told : tie.Need-enum-told
 enum-told c = search needs

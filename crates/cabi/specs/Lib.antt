@@ -1,2 +1,0 @@
--- What the C interface hands over.
-pub mod Numbers

@@ -1,0 +1,12 @@
+-- `numbers::without_powers` meets its contract.
+use mathlib.Core.Path.{refl}
+use Rattle.numbers.specs.Numbers.{withoutPowers}
+use Rattle.numbers.proofs.without_powers.Statement.{statement}
+use Rattle.numbers.proofs.without_powers.Tie as tie
+
+returns : tie.Need-returns
+unfolding withoutPowers
+returns c = refl
+
+pub without-powers-spec : {M : Type 1} → statement M
+without-powers-spec = tie.close (tie.spec returns)
