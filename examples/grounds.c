@@ -1,6 +1,7 @@
 /* Prints a facet's values, D and coefficients, and in words why Judge says crossed or not: without arguments for marked cases of document 01,
- * with a job file, the lowest vertex and the masks for that facet. D and the coefficients are computed here, from the polynomials' values, and the
- * ground is read off them once more: the exit status is 1 if a ground did not hold or the plain Judge answered otherwise. */
+ * with a job file, the lowest vertex and the masks for that facet. D and the coefficients are computed here, from the polynomials' sums after the
+ * bias, and the ground is read off them once more. Exit status 0; 1 refused, or a ground that does not hold or is not the plain Judge's answer;
+ * 2 usage, or a file that cannot be read. */
 #include "gethwapiko.h"
 #include <stdio.h>
 #include <stdlib.h>
@@ -32,8 +33,12 @@ static int64_t determinant(int m, int64_t column[MOST][MOST], int r, unsigned us
 static int64_t value_at(const uint8_t *job, size_t length, int polynomial, const int64_t v[MOST]) {
     OpenAnswer o = gethwapiko_open(job, length);
     uint64_t terms = polynomial == 0 ? o.terms1 : polynomial == 1 ? o.terms2 : o.terms3;
-    int64_t sum = gethwapiko_running_sum(job, length, (uint64_t)polynomial, v[0], v[1], v[2], v[3], terms).sum;
-    return llabs(sum) <= job[GETHWAPIKO_BIAS] ? 0 : sum;
+    SumAnswer a = gethwapiko_running_sum(job, length, (uint64_t)polynomial, v[0], v[1], v[2], v[3], terms);
+    if (a.refusal) { /* not for a vertex of a facet that Judge answers for */
+        fprintf(stderr, "grounds: a sum is refused: %llu\n", (unsigned long long)a.refusal);
+        exit(1);
+    }
+    return llabs(a.sum) <= job[GETHWAPIKO_BIAS] ? 0 : a.sum;
 }
 
 static Facet read_facet(const uint8_t *job, size_t length, const uint8_t *place, int n) {
@@ -41,7 +46,7 @@ static Facet read_facet(const uint8_t *job, size_t length, const uint8_t *place,
     for (int i = 0; i < n; i++) {
         unsigned mask = i == 0 ? 0 : place[2 * n + i - 1];
         for (int a = 0; a < n; a++)
-            f.vertex[i][a] = (int16_t)(place[2 * a] | place[2 * a + 1] << 8) + (mask >> a & 1);
+            f.vertex[i][a] = (int16_t)(place[2 * a] | place[2 * a + 1] << 8) + (int)(mask >> a & 1);
         f.column[i][0] = 1;
         for (int k = 0; k + 1 < n; k++)
             f.column[i][k + 1] = value_at(job, length, k, f.vertex[i]);
@@ -154,8 +159,10 @@ int main(int argc, char **argv) {
     if (argc == 1)
         return marked_cases();
     FILE *f = fopen(argv[1], "rb");
-    if (!f)
-        return usage();
+    if (!f) {
+        perror(argv[1]);
+        return 2;
+    }
     size_t length = fread(job, 1, sizeof job, f);
     fclose(f);
     OpenAnswer o = gethwapiko_open(job, length);

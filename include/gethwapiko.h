@@ -1,12 +1,13 @@
 /* The C interface of Gethwapiko (archive: target/staticlib/libcabi.a, x86-64).
  *
- * Each function answers exactly what the definition of document 01 and of the requests says, for every input; the proof is in crates/cabi.
+ * Each function answers exactly what the definition of document 01 and of the requests says, for every input; the proof is in crates/cabi, and that
+ * of the structs' numbers in crates/numbers.
  * Bytes are handed over as a pointer and a count, and the pointer must be good for that many bytes. Nothing is kept between calls,
  * nothing is allocated, and only the buffer of gethwapiko_trace is written; it must not overlap the job.
  *
  * The field `refusal` is 0 or the number of the refusal; beside a refusal every other field is 0.
  * A field that an answer does not use is 0: terms2, z and mask2 in dimension 2, terms3, w and mask3 below dimension 4, the place of an
- * edge, the point of a close, the vertex and the powers that a ground does not name.
+ * edge, the point of a close, the vertex, the powers and n that a ground does not name.
  *
  * Refusals, in the order in which Open tests them; every other function opens the job first:
  *    1  fewer than 4 bytes                 5  contents cut short, bodies not adjacent, or a length wrong for its kind
@@ -113,9 +114,11 @@ BodyAnswer gethwapiko_body(const uint8_t *job, size_t job_length, uint64_t index
 /* Judge: whether the place's facet is crossed. Refusals 13, 9, 10. */
 JudgeAnswer gethwapiko_judge(const uint8_t *job, size_t job_length, const uint8_t *place, size_t place_length);
 
-/* Judge with its ground: why the place's facet is crossed or not. A vertex's sign is that of its first coefficient, in rising powers, that is
- * not 0, and that power decides it: a power is named only if all lower coefficients are 0. Whoever reads D, the powers named and their
- * coefficients reaches gethwapiko_judge's answer, which is always kind == 2. Refusals 13, 9, 10. */
+/* Judge with its ground: why the place's facet is crossed or not. D is the determinant whose column i is 1 and the values at vertex i, after the
+ * bias; the coefficients of vertex i are those of the powers of e if column i is (1, e, .., e to the n-1) instead. A vertex's sign is that of its
+ * first coefficient, in rising powers, that is not 0, and that power decides it: a power is named only if all lower coefficients are 0. Whoever
+ * reads D, the powers named and their coefficients reaches gethwapiko_judge's answer: crossed exactly if kind is 2. Refusals 13, 9, 10; test
+ * `refusal` first, since beside one kind is 0 like every field. */
 GroundAnswer gethwapiko_judge_ground(const uint8_t *job, size_t job_length, const uint8_t *place, size_t place_length);
 
 /* Point: where the curve crosses the place's facet, on each axis to the nearest step: 1/2048 of a unit is 0 steps, 3/2048 is 2, -1/2048 is 0.

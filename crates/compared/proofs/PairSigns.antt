@@ -25,7 +25,7 @@ use Rattle.exact.proofs.ExitCompared.{skip-next, cond-holds}
 use Rattle.facets.specs.Cells.{Cells, simplexColumns, facetColumns}
 use Rattle.facets.specs.Entries.{coefficientLimit}
 use Rattle.facets.specs.Signs.{signNumber}
-use Rattle.facets.proofs.SignNumber.{number-above, number-below, number-nought}
+use Rattle.facets.proofs.SignNumber.{number-above, number-below, number-nought, number-zero, zero-number}
 use Rattle.facets.proofs.CrossedWalk.{leftAt, left-begin, left-passed, left-found, left-none}
 
 -- the columns that a pair's coefficients are of: a vertex, then those of the facet without q but for vertex i
@@ -95,16 +95,6 @@ above-two positive h = cc
 
 -- ---- the sign of a pair, after the powers before j were passed
 
-sign-zero : (x : ℤ) → 0 ≡ signNumber (sign x) → x ≡ 0ℤ
-unfolding signNumber sign
-sign-zero (pos zero) h = refl
-sign-zero (pos (suc k)) h = cc
-sign-zero (negsuc k) h = cc
-
-zero-sign : (x : ℤ) → x ≡ 0ℤ → signNumber (sign x) ≡ 0
-unfolding signNumber sign
-zero-sign x e = rw e
-
 module _ (n : ℕ) (cells : List ℤ) (q r : ℕ) (l : q < r) where
   -- the columns of the pair
   abbrev pub pair : List Column
@@ -124,7 +114,7 @@ module _ (n : ℕ) (cells : List ℤ) (q r : ℕ) (l : q < r) where
   passed-begin = left-begin n pair 0
 
   pub passed-zero : (j : ℕ) → j < n → Passed j → coefficient n pair 0 j ≡ 0ℤ → Passed (j + 1)
-  passed-zero j h p z = p ∙ left-passed n pair 0 j h (zero-sign _ z)
+  passed-zero j h p z = p ∙ left-passed n pair 0 j h (zero-number _ z)
 
   -- at power j, by the tests of the coefficient
   module _ (j : ℕ) (h : j < n) (p : Passed j) {z : ℤ} (e : Is coefficientLimit (coefficient n pair 0 j) z) where
@@ -139,7 +129,7 @@ module _ (n : ℕ) (cells : List ℤ) (q r : ℕ) (l : q < r) where
         above-two _ two ∙ ap above (sym (pair-is ∙ p ∙ left-found n pair 0 j h (λ k. let w : 2 ≡ 0 = two ∙ k in absurd (omega arith))))
 
     pub found-zero : ltZ (pos 0) (back z) ≡ false → ltZ (back z) (pos 0) ≡ false → coefficient n pair 0 j ≡ 0ℤ
-    found-zero t u = sign-zero _ (tested-nought e t u)
+    found-zero t u = number-zero _ (sym (tested-nought e t u))
 
   pub found-none : (j : ℕ) → n ≤ j → Passed j → false ≡ above (pairSign n (simplexColumns n cells) q r)
   unfolding above

@@ -9,35 +9,20 @@ use mathlib.Core.List.{List, [], _∷_, map}
 use lib.Dec.{lit≤}
 use lib.IntN.{ℤ}
 use Rattle.exact.specs.Int.{0ℤ}
-use Rattle.exact.specs.Sign.{Sign, nought, sign}
+use Rattle.exact.specs.Sign.{sign}
 use Rattle.exact.specs.Det.{Column, determinant}
 use Rattle.exact.specs.Crossed.{countFrom, coefficient}
 use Rattle.exact.specs.Size.{Is}
 use Rattle.exact.proofs.Bits.{back, holds-call}
 use Rattle.exact.proofs.CountFrom.{length-map-countFrom}
-use Rattle.exact.proofs.SignLaws.{sign-nought, sign-zero}
-use Rattle.exact.proofs.LexSign.{sameSign-sound}
 use Rattle.paper.specs.Operations.{answered}
-use Rattle.grounds.specs.Ground.{zeroDeterminant, vertexAgainst, allWith, decidingPower, ground, With, Holds, NamesFirst}
+use Rattle.grounds.specs.Ground.{zeroDeterminant, vertexAgainst, allWith, decidingPower, ground, HoldsOf, NamesFirstOf, Holds, NamesFirst}
 use Rattle.grounds.proofs.Deciding.{decides-only, decides-none, power-to-name}
-use Rattle.grounds.proofs.Ground.{power-at, ground-only}
+use Rattle.grounds.proofs.Ground.{power-at, AllBefore, before-next, ground-only}
 use Rattle.facets.specs.Signs.{signNumber}
 use Rattle.facets.specs.Entries.{coefficientLimit}
-use Rattle.facets.proofs.SignNumber.{sameSign-number}
+use Rattle.facets.proofs.SignNumber.{number-zero}
 use Rattle.deciding.specs.Against.{FirstAgainst}
-
--- ---- a sign's number
-
-pub number-sign : (s t : Sign) → signNumber s ≡ signNumber t → s ≡ t
-number-sign s t h = sameSign-sound s t (sameSign-number s t h)
-
-pub number-zero : (x : ℤ) → signNumber (sign x) ≡ 0 → x ≡ 0ℤ
-unfolding signNumber
-number-zero x h = sign-nought x (number-sign (sign x) nought h)
-
-pub zero-number : (x : ℤ) → x ≡ 0ℤ → signNumber (sign x) ≡ 0
-unfolding signNumber
-zero-number x h = ap (λ y. signNumber (sign y)) h ∙ ap signNumber sign-zero
 
 -- the number of the sign of a coefficient that was computed
 pub same-sign :
@@ -87,54 +72,37 @@ module _ (n : ℕ) (cs : List Column) where
 
   -- ---- the vertices
 
-  pub AllWithBefore : ℕ → Type 0
-  AllWithBefore i = (k : ℕ) → k < i → With n cs k (decidingPower n cs k)
-
-  pub none-before : AllWithBefore 0
-  unfolding AllWithBefore
-  none-before k l = absurd (omega arith)
-
   module _ (d : determinant n cs ≢ 0ℤ) (i : ℕ) (inside : i < n) where
     pub one-more-with :
-        AllWithBefore i → sign (coefficient n cs i (decidingPower n cs i)) ≡ sign (determinant n cs) → AllWithBefore (i + 1)
-    unfolding AllWithBefore
-    one-more-with h e k l = go (ℕ-discrete i k)
-      where
-        here : With n cs i (decidingPower n cs i)
-        here = record { decides = power-to-name n cs i d inside; agrees = e }
-
-        go : Dec (i ≡ k) → With n cs k (decidingPower n cs k)
-        go (yes q) = rw (sym q) here
-        go (no h′) = h k (omega arith)
+        AllBefore n cs i → sign (coefficient n cs i (decidingPower n cs i)) ≡ sign (determinant n cs) → AllBefore n cs (i + 1)
+    one-more-with h e k l = before-next n cs i h (record { decides = power-to-name n cs i d inside; agrees = e }) k (omega arith)
 
     pub found-against :
-        AllWithBefore i → (sign (coefficient n cs i (decidingPower n cs i)) ≢ sign (determinant n cs)) → FirstAgainst n cs i
-    unfolding AllWithBefore
+        AllBefore n cs i → (sign (coefficient n cs i (decidingPower n cs i)) ≢ sign (determinant n cs)) → FirstAgainst n cs i
     found-against h e = record {
       low = omega arith;
       before = h;
       itself = λ l. record { determined = d; vertex = inside; decides = power-to-name n cs i d inside; differs = e };
     }
 
-  pub none-against : (i : ℕ) → i ≤ n → n ≤ i → AllWithBefore i → FirstAgainst n cs i
-  unfolding AllWithBefore
+  pub none-against : (i : ℕ) → i ≤ n → n ≤ i → AllBefore n cs i → FirstAgainst n cs i
   none-against i l m h = record { low = l; before = h; itself = λ u. absurd (omega arith) }
 
   -- ---- the ground, by what it is known by
 
   pub zero-ground : signNumber (sign (determinant n cs)) ≡ 0 → answered zeroDeterminant ≡ answered (ground n cs)
-  unfolding Holds NamesFirst
+  unfolding Holds HoldsOf NamesFirst NamesFirstOf
   zero-ground h = ap answered (sym (ground-only n cs zeroDeterminant (number-zero (determinant n cs) h) tt))
 
   pub against-ground :
       {i j : ℕ} → FirstAgainst n cs i → i < n → j ≡ decidingPower n cs i → answered (vertexAgainst i j) ≡ answered (ground n cs)
-  unfolding Holds NamesFirst
+  unfolding Holds HoldsOf NamesFirst NamesFirstOf
   against-ground {i} w l e =
       ap (λ j. answered (vertexAgainst i j)) e
       ∙ ap answered (sym (ground-only n cs (vertexAgainst i (decidingPower n cs i)) (w .itself l) (λ k u. (decidingPower n cs k, w .before k u))))
 
   pub with-ground : determinant n cs ≢ 0ℤ → {i : ℕ} → FirstAgainst n cs i → n ≤ i → answered (allWith powers) ≡ answered (ground n cs)
-  unfolding Holds NamesFirst
+  unfolding Holds HoldsOf NamesFirst NamesFirstOf
   with-ground d w l =
       ap answered
       (sym (ground-only n cs (allWith powers)

@@ -14,7 +14,7 @@ use Rattle.exact.specs.Det.{Column, determinant}
 use Rattle.exact.specs.Crossed.{countFrom, coefficient, coefficients, allHaveSign, crossed, Crossed}
 use Rattle.exact.proofs.AndTests.{and-left, and-right}
 use Rattle.exact.proofs.SignLaws.{sign-nought, sign-zero}
-use Rattle.exact.proofs.LexSign.{sameSign-refl, sameSign-sound, sign-discrete}
+use Rattle.exact.proofs.LexSign.{sameSign-refl, sameSign-sound, signs-differ, nonzero-sign, sign-discrete}
 
 -- ---- tests
 
@@ -114,12 +114,6 @@ pub record SignsAgree (n : ℕ) (cs : List Column) : Type 0 where
 not-nought : (s : Sign) → not (sameSign s nought) ≡ true → s ≢ nought
 not-nought s h e = false≢true (sym (ap (λ t. not (sameSign t nought)) e ∙ ap not (sameSign-refl nought)) ∙ h)
 
-nought-not : (s : Sign) → s ≢ nought → not (sameSign s nought) ≡ true
-unfolding sameSign
-nought-not negative h = refl
-nought-not nought h = absurd (h refl)
-nought-not positive h = refl
-
 pub crossed→signs : (n : ℕ) (cs : List Column) → crossed n cs ≡ true → SignsAgree n cs
 unfolding crossed
 crossed→signs n cs h =
@@ -136,7 +130,7 @@ crossed→signs n cs h =
 
 pub signs→crossed : (n : ℕ) (cs : List Column) → SignsAgree n cs → crossed n cs ≡ true
 unfolding crossed
-signs→crossed n cs w = and-intro _ _ (nought-not _ (w .determined)) (allHaveSign-all n cs _ 0 n (λ i l u. w .agree i (omega arith)))
+signs→crossed n cs w = and-intro _ _ (ap not (signs-differ _ nought (w .determined))) (allHaveSign-all n cs _ 0 n (λ i l u. w .agree i (omega arith)))
 
 -- ---- the statement
 
@@ -159,7 +153,7 @@ unfolding coefficients
 Crossed→crossed n cs c = signs→crossed n cs (record { determined = determined; agree = agree })
   where
     determined : sign (determinant n cs) ≢ nought
-    determined e = c .determined (sign-nought _ e)
+    determined = nonzero-sign (determinant n cs) (c .determined)
 
     agree : (i : ℕ) → i < n → lexSign (coefficients n cs i) ≡ sign (determinant n cs)
     agree i l =

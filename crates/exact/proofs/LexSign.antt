@@ -12,7 +12,7 @@ use lib.IntN.{ℤ}
 use Rattle.exact.specs.Int.{_⊕_, _⊗_, neg, 0ℤ}
 use Rattle.exact.specs.Sign.{Sign, negative, nought, positive, sign, orElse, lexSign, sameSign}
 use Rattle.exact.specs.Crossed.{countFrom}
-use Rattle.exact.proofs.SignLaws.{opposite, signTimes, sign-neg, sign-mul, sign-nought, sign-three, CanCancel, noughts, plus-minus-any, plus-any-minus, any-plus-minus, minus-plus-any, minus-any-plus, any-minus-plus}
+use Rattle.exact.proofs.SignLaws.{opposite, signTimes, sign-neg, sign-mul, sign-zero, sign-nought, sign-three, CanCancel, noughts, plus-minus-any, plus-any-minus, any-plus-minus, minus-plus-any, minus-any-plus, any-minus-plus}
 
 -- ---- signs
 
@@ -33,6 +33,19 @@ sameSign-sound nought positive h = absurd (false≢true h)
 sameSign-sound positive negative h = absurd (false≢true h)
 sameSign-sound positive nought h = absurd (false≢true h)
 sameSign-sound positive positive h = refl
+
+pub signs-differ : (s t : Sign) → s ≢ t → sameSign s t ≡ false
+signs-differ s t h = go (sameSign s t) refl
+  where
+    go : (b : Bool) → sameSign s t ≡ b → b ≡ false
+    go true e = absurd (h (sameSign-sound s t e))
+    go false e = refl
+
+pub same-nought : (x : ℤ) → x ≡ 0ℤ → sameSign (sign x) nought ≡ true
+same-nought x h = ap (λ y. sameSign (sign y) nought) h ∙ ap (λ s. sameSign s nought) sign-zero ∙ sameSign-refl nought
+
+pub nonzero-sign : (x : ℤ) → x ≢ 0ℤ → sign x ≢ nought
+nonzero-sign x h e = h (sign-nought x e)
 
 pub sign-discrete : (s t : Sign) → Dec (s ≡ t)
 sign-discrete s t = go (sameSign s t) refl

@@ -9,6 +9,7 @@ use Rattle.exact.specs.Sign.{Sign, negative, nought, positive, sign, orElse, le
 use Rattle.exact.specs.Det.{Column, determinant}
 use Rattle.exact.specs.Crossed.{countFrom, coefficient, coefficients, allHaveSign, crossed}
 use Rattle.exact.proofs.CountFrom.{countFrom-next, countFrom-none}
+use Rattle.exact.proofs.LexSign.{signs-differ}
 use Rattle.facets.specs.Signs.{signNumber}
 use Rattle.facets.proofs.SignNumber.{sameSign-number, sameSign-numbers-differ}
 
@@ -25,10 +26,8 @@ orElse-found nought t h = absurd (h refl)
 orElse-found positive t h = refl
 
 nought-differs : (s : Sign) → (signNumber s ≡ 0 → ⊥) → sameSign nought s ≡ false
-unfolding signNumber sameSign
-nought-differs negative h = refl
-nought-differs nought h = absurd (h refl)
-nought-differs positive h = refl
+unfolding signNumber
+nought-differs s h = signs-differ nought s (λ e. h (ap signNumber (sym e)))
 
 module _ (n : ℕ) (cs : List Column) where
   -- the coefficients of vertex i from power j on

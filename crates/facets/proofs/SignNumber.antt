@@ -1,6 +1,6 @@
 -- The number of a sign: what the two tests of `sign_of` say, and that the number tells the sign.
 use Prim.Native.Nat.{suc, zero}
-use mathlib.Core.Path.{_≡_, refl, subst}
+use mathlib.Core.Path.{_≡_, refl, ap, subst, _∙_}
 use mathlib.Core.Bool.{true, false}
 use native.Mathlib.Omega.{arith}
 use borrow.Author.Tests.{ltb-true, ltb-false}
@@ -10,7 +10,10 @@ use mir.Syntax.{w64}
 use mir.Val.{SFits}
 use mir.ValLaws.{toZ-ofZ}
 use Rattle.exact.specs.Sign.{Sign, negative, nought, positive, sign, sameSign}
+use Rattle.exact.specs.Int.{0ℤ}
 use Rattle.exact.proofs.Bits.{back}
+use Rattle.exact.proofs.SignLaws.{sign-zero, sign-nought}
+use Rattle.exact.proofs.LexSign.{sameSign-sound, signs-differ}
 use Rattle.facets.specs.Signs.{signNumber}
 
 module _ (x : ℤ) (fits : SFits w64 x) where
@@ -55,14 +58,17 @@ sameSign-number positive negative h = cc
 sameSign-number positive nought h = cc
 sameSign-number positive positive h = refl
 
+pub number-sign : (s t : Sign) → signNumber s ≡ signNumber t → s ≡ t
+number-sign s t h = sameSign-sound s t (sameSign-number s t h)
+
 pub sameSign-numbers-differ : (s t : Sign) → (signNumber s ≡ signNumber t → ⊥) → sameSign s t ≡ false
-unfolding signNumber sameSign
-sameSign-numbers-differ negative negative h = absurd (h refl)
-sameSign-numbers-differ negative nought h = refl
-sameSign-numbers-differ negative positive h = refl
-sameSign-numbers-differ nought negative h = refl
-sameSign-numbers-differ nought nought h = absurd (h refl)
-sameSign-numbers-differ nought positive h = refl
-sameSign-numbers-differ positive negative h = refl
-sameSign-numbers-differ positive nought h = refl
-sameSign-numbers-differ positive positive h = absurd (h refl)
+sameSign-numbers-differ s t h = signs-differ s t (λ e. h (ap signNumber e))
+
+-- the number of nought is that of 0 alone
+pub number-zero : (x : ℤ) → signNumber (sign x) ≡ 0 → x ≡ 0ℤ
+unfolding signNumber
+number-zero x h = sign-nought x (number-sign (sign x) nought h)
+
+pub zero-number : (x : ℤ) → x ≡ 0ℤ → signNumber (sign x) ≡ 0
+unfolding signNumber
+zero-number x h = ap (λ y. signNumber (sign y)) h ∙ ap signNumber sign-zero

@@ -3,8 +3,7 @@
 use Prim.Native.Nat.{ℕ}
 use mathlib.Core.Path.{_≡_, refl}
 use mathlib.Core.List.{List, [], _∷_}
-use lib.ListN.{set, take}
-use Rattle.curves.specs.Step as Step
+use lib.ListN.{set}
 use Rattle.paper.specs.Operations.{Answer, refused, answered}
 use Rattle.paper.proofs.Cases.{bodyOffsets, caseA, caseC, caseF, caseG, caseH, caseI, oneTermJob, unitBox, unitStart}
 use Rattle.paper.proofs.Cases4.{caseC4}

@@ -10,7 +10,7 @@ use Rattle.exact.specs.Det.{determinant}
 use Rattle.exact.specs.Crossed.{coefficient}
 use Rattle.curves.specs.Step.{crossedFacet}
 use Rattle.paper.specs.Job.{dimension}
-use Rattle.paper.specs.Operations.{Answer, refused, answered, unless, crossedIn, facetOf, judgeRefusal, judged}
+use Rattle.paper.specs.Operations.{answered, unless, crossedIn, facetOf, judgeRefusal, judged}
 use Rattle.paper.proofs.Refusals.{answered-inv, unless-answered}
 use Rattle.grounds.specs.Ground.{Ground, decidingPower, ground, crossedBy, Decides, Holds, NamesFirst, Names}
 use Rattle.grounds.specs.Judged.{placeColumns, judgedBy, plainly}
@@ -55,7 +55,9 @@ module _ (s p : List ℕ) where
 
     -- a power is named only if all lower coefficients are 0
     pub named-lowest : (i j : ℕ) → Names g i j → (k : ℕ) → k < j → coefficient (dimension s) (placeColumns s p) i k ≡ 0ℤ
-    named-lowest i j w = named-decides (dimension s) (placeColumns s p) g named-holds i j w .lower
+    unfolding Holds
+    named-lowest i j w =
+        named-decides (dimension s) (determinant (dimension s) (placeColumns s p)) (coefficient (dimension s) (placeColumns s p)) g named-holds i j w .lower
 
   -- no other ground would do
   pub named-only :
@@ -68,5 +70,5 @@ module _ (s p : List ℕ) where
   -- with D not 0 each vertex has a power to name
   pub each-has-a-power :
       determinant (dimension s) (placeColumns s p) ≢ 0ℤ → (i : ℕ) → i < dimension s
-      → Decides (dimension s) (placeColumns s p) i (decidingPower (dimension s) (placeColumns s p) i)
+      → Decides (dimension s) (coefficient (dimension s) (placeColumns s p) i) (decidingPower (dimension s) (placeColumns s p) i)
   each-has-a-power d i l = power-to-name (dimension s) (placeColumns s p) i d l

@@ -1,5 +1,5 @@
 -- The ground of a judgement, over columns: document 02, request 2.9. Vertices are numbered from 0 in chain order, and powers from 0.
-use Prim.Native.Nat.{ℕ, suc, zero, _<_}
+use Prim.Native.Nat.{ℕ, suc, _<_}
 use mathlib.Core.Path.{_≡_}
 use mathlib.Core.Logic.{_≢_}
 use mathlib.Core.Bool.{Bool, true, false, cond}
@@ -42,7 +42,7 @@ ground n cs =
     cond (sameSign (sign (determinant n cs)) nought) zeroDeterminant
     (groundFrom n cs (sign (determinant n cs)) (countFrom 0 n))
 
--- ---- the ground as it is read: D, the vertex and the powers that it names, and coefficients
+-- ---- the ground as it is read
 
 -- the yes or no that a ground stands for
 unfoldable pub crossedBy : Ground → Bool
@@ -50,41 +50,48 @@ crossedBy zeroDeterminant = false
 crossedBy (vertexAgainst i j) = false
 crossedBy (allWith js) = true
 
--- the coefficient of power j decides vertex i: it is not 0, and all lower ones are
-pub record Decides (n : ℕ) (cs : List Column) (i j : ℕ) : Type 0 where
+-- power j decides a vertex with the coefficients a: its own is not 0, and all lower ones are
+pub record Decides (n : ℕ) (a : ℕ → ℤ) (j : ℕ) : Type 0 where
   pub power : j < n
-  pub lower : (k : ℕ) → k < j → coefficient n cs i k ≡ 0ℤ
-  pub itself : coefficient n cs i j ≢ 0ℤ
+  pub lower : (k : ℕ) → k < j → a k ≡ 0ℤ
+  pub itself : a j ≢ 0ℤ
 
--- power j decides vertex i, with the sign of D
-pub record With (n : ℕ) (cs : List Column) (i j : ℕ) : Type 0 where
-  pub decides : Decides n cs i j
-  pub agrees : sign (coefficient n cs i j) ≡ sign (determinant n cs)
+-- it decides with the sign of D
+pub record With (n : ℕ) (D : ℤ) (a : ℕ → ℤ) (j : ℕ) : Type 0 where
+  pub decides : Decides n a j
+  pub agrees : sign (a j) ≡ sign D
 
--- D is not 0 and power j decides vertex i, with the other sign
-pub record Against (n : ℕ) (cs : List Column) (i j : ℕ) : Type 0 where
-  pub determined : determinant n cs ≢ 0ℤ
+-- D is not 0 and power j decides vertex i, with the other sign; a i k is the coefficient of vertex i and power k
+pub record Against (n : ℕ) (D : ℤ) (a : ℕ → ℕ → ℤ) (i j : ℕ) : Type 0 where
+  pub determined : D ≢ 0ℤ
   pub vertex : i < n
-  pub decides : Decides n cs i j
-  pub differs : sign (coefficient n cs i j) ≢ sign (determinant n cs)
+  pub decides : Decides n (a i) j
+  pub differs : sign (a i j) ≢ sign D
 
--- D is not 0 and there is a power for each vertex, which decides it, with the sign of D
-pub record EachWith (n : ℕ) (cs : List Column) (js : List ℕ) : Type 0 where
-  pub determined : determinant n cs ≢ 0ℤ
+-- D is not 0 and there is a power for each vertex, which decides it with the sign of D
+pub record EachWith (n : ℕ) (D : ℤ) (a : ℕ → ℕ → ℤ) (js : List ℕ) : Type 0 where
+  pub determined : D ≢ 0ℤ
   pub count : length js ≡ n
-  pub each : (i : ℕ) → i < n → With n cs i (getD js i 0)
+  pub each : (i : ℕ) → i < n → With n D (a i) (getD js i 0)
 
--- the ground holds of the columns
-unfoldable pub Holds : ℕ → List Column → Ground → Type 0
-Holds n cs zeroDeterminant = determinant n cs ≡ 0ℤ
-Holds n cs (vertexAgainst i j) = Against n cs i j
-Holds n cs (allWith js) = EachWith n cs js
+-- the ground holds: whoever reads it is handed D and the coefficients, and nothing else of the facet
+unfoldable pub HoldsOf : ℕ → ℤ → (ℕ → ℕ → ℤ) → Ground → Type 0
+HoldsOf n D a zeroDeterminant = D ≡ 0ℤ
+HoldsOf n D a (vertexAgainst i j) = Against n D a i j
+HoldsOf n D a (allWith js) = EachWith n D a js
 
 -- no vertex before the one named is against D
+unfoldable pub NamesFirstOf : ℕ → ℤ → (ℕ → ℕ → ℤ) → Ground → Type 0
+NamesFirstOf n D a zeroDeterminant = Unit
+NamesFirstOf n D a (vertexAgainst i j) = (k : ℕ) → k < i → (l : ℕ) × With n D (a k) l
+NamesFirstOf n D a (allWith js) = Unit
+
+-- the same of columns
+unfoldable pub Holds : ℕ → List Column → Ground → Type 0
+Holds n cs g = HoldsOf n (determinant n cs) (coefficient n cs) g
+
 unfoldable pub NamesFirst : ℕ → List Column → Ground → Type 0
-NamesFirst n cs zeroDeterminant = Unit
-NamesFirst n cs (vertexAgainst i j) = (k : ℕ) → k < i → (l : ℕ) × With n cs k l
-NamesFirst n cs (allWith js) = Unit
+NamesFirst n cs g = NamesFirstOf n (determinant n cs) (coefficient n cs) g
 
 -- the ground names power j for vertex i
 unfoldable pub Names : Ground → ℕ → ℕ → Type 0

@@ -1,5 +1,4 @@
 -- `deciding::crossed_by` meets its contract: a power for each vertex of the dimension.
-use borrow.Author.Needs.{needs}
 use native.Mathlib.Omega.{arith}
 use Rattle.grounds.specs.Judged.{judgedByAs}
 use Rattle.deciding.proofs.Powers.{two-powers, three-powers, four-powers}

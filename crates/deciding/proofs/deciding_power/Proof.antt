@@ -8,7 +8,8 @@ use Rattle.exact.specs.Crossed.{coefficient}
 use Rattle.exact.proofs.Bits.{holds-call}
 use Rattle.facets.specs.Cells.{facetColumns}
 use Rattle.facets.specs.Signs.{signNumber}
-use Rattle.deciding.proofs.Powers.{number-zero, zero-number, ZerosBefore, one-more-zero, found-power, no-power}
+use Rattle.facets.proofs.SignNumber.{number-zero, zero-number}
+use Rattle.deciding.proofs.Powers.{ZerosBefore, one-more-zero, found-power, no-power}
 use Rattle.deciding.proofs.deciding_power.Statement.{statement}
 use Rattle.deciding.proofs.deciding_power.Tie as tie
 

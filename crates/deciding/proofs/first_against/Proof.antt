@@ -3,18 +3,19 @@ use Prim.Native.Nat.{_≤_, _<_, _-_}
 use mathlib.Core.Path.{_≡_, sym, ap, _∙_}
 use native.Mathlib.Omega.{arith}
 use Rattle.exact.specs.Sign.{sign}
-use Rattle.exact.specs.Det.{determinant}
 use Rattle.exact.specs.Crossed.{coefficient}
 use Rattle.grounds.specs.Ground.{decidingPower}
 use Rattle.grounds.proofs.Deciding.{power-to-name}
+use Rattle.grounds.proofs.Ground.{AllBefore}
 use Rattle.facets.specs.Cells.{facetColumns}
 use Rattle.facets.specs.Signs.{signNumber}
-use Rattle.deciding.proofs.Powers.{number-sign, same-sign, AllWithBefore, none-before, one-more-with, found-against, none-against}
+use Rattle.facets.proofs.SignNumber.{number-sign}
+use Rattle.deciding.proofs.Powers.{same-sign, one-more-with, found-against, none-against}
 use Rattle.deciding.proofs.first_against.Statement.{statement}
 use Rattle.deciding.proofs.first_against.Tie as tie
 
 abbrev Inv-loop : tie.InvT-loop
-Inv-loop n cells side i₀ i = (i ≤ n) × AllWithBefore n (facetColumns n cells n) i
+Inv-loop n cells side i₀ i = (i ≤ n) × AllBefore n (facetColumns n cells n) i
 
 abbrev μ-loop : tie.MeasureT-loop
 μ-loop n cells side i₀ i = n - i
@@ -36,7 +37,7 @@ sign-is :
 sign-is c = same-sign _ _ _ (c .sign-of .ensures) (c .before .coefficient .ensures) (c .before .before .deciding-power .ensures)
 
 loop-holds : tie.Need-loop-holds Inv-loop μ-loop
-loop-holds c = (omega (arith, c .pre .0 .axes .low), none-before _ _)
+loop-holds c = (omega (arith, c .pre .0 .axes .low), λ k l. absurd (omega arith))
 
 deciding-power-requires : tie.Need-deciding-power-requires Inv-loop μ-loop
 deciding-power-requires c κs = (c .before .before .pre .0, c .loop-test .taken)

@@ -9,7 +9,8 @@ use Rattle.exact.proofs.Bits.{holds-call}
 use Rattle.grounds.specs.Judged.{judgedByAs}
 use Rattle.facets.specs.Cells.{facetColumns}
 use Rattle.facets.specs.Signs.{signNumber}
-use Rattle.deciding.proofs.Powers.{zero-number, zero-ground, against-ground, with-ground}
+use Rattle.facets.proofs.SignNumber.{zero-number}
+use Rattle.deciding.proofs.Powers.{zero-ground, against-ground, with-ground}
 use Rattle.deciding.proofs.ground.Statement.{statement}
 use Rattle.deciding.proofs.ground.Tie as tie
 
