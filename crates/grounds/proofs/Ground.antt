@@ -24,8 +24,8 @@ use Rattle.grounds.proofs.Deciding.{one-power, decides-only, decides-si
 -- ---- of any numbers D and a i j, as a reader is handed them
 
 against-with : {n : ℕ} {D : ℤ} {a : ℕ → ℕ → ℤ} {i j : ℕ} {js : List ℕ} → Against n D a i j → EachWith n D a js → ⊥
-against-with {a} {i} {j} {js} w v =
-    let with : With _ _ (a i) (getD js i 0) = v .each i (w .vertex) in
+against-with {n} {D} {a} {i} {j} {js} w v =
+    let with : With n D (a i) (getD js i 0) = v .each i (w .vertex) in
     w .differs (ap (λ k. sign (a i k)) (one-power (w .decides) (with .decides)) ∙ with .agrees)
 
 -- whatever the numbers, grounds that hold of them say the same
