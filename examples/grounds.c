@@ -159,11 +159,11 @@ int main(int argc, char **argv) {
     if (argc == 1)
         return marked_cases();
     FILE *f = fopen(argv[1], "rb");
-    if (!f) {
+    size_t length = f ? fread(job, 1, sizeof job, f) : 0;
+    if (!f || ferror(f)) { /* a folder opens and cannot be read */
         perror(argv[1]);
         return 2;
     }
-    size_t length = fread(job, 1, sizeof job, f);
     fclose(f);
     OpenAnswer o = gethwapiko_open(job, length);
     if (o.refusal) {

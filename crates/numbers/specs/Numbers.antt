@@ -2,7 +2,7 @@
 -- that an answer does not use: the axes, the masks and the counts that a lower dimension does not have, the place of an
 -- edge, the point of a close, the vertex and the powers that a ground does not name.
 use Prim.Native.Nat.{ℕ}
-use mathlib.Core.Bool.{Bool, true, false, not}
+use mathlib.Core.Bool.{Bool, true, false, not, cond}
 use mathlib.Core.List.{List}
 use lib.IntN.{ℤ}
 use lib.Dec.{eqb}
@@ -77,6 +77,10 @@ groundNumbers (refused k) = withoutPowers k 0 0 0
 groundNumbers (answered zeroDeterminant) = withoutPowers 0 0 0 0
 groundNumbers (answered (vertexAgainst i j)) = withoutPowers 0 1 i j
 groundNumbers (answered (allWith js)) = withPowers (length js) (getD js 0 0) (getD js 1 0) (getD js 2 0) (getD js 3 0)
+
+-- the plain answer, read off the struct with the ground: crossed exactly if kind is 2
+unfoldable pub plainNumbers : GroundAnswer → JudgeAnswer
+plainNumbers g = record { refusal = g .refusal; crossed = cond (eqb (g .kind) 2) 1 0 }
 
 -- the point in steps of 1/1024
 unfoldable pub pointNumbers : Answer (List ℤ) → PointAnswer

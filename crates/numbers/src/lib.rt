@@ -151,7 +151,7 @@ pub fn judge_numbers(answer: Judged) -> JudgeAnswer
     }
 }
 
-// Judge's answer with its ground where the facet is not crossed.
+// Judge's answer with its ground where there is no list of powers: refused, or not crossed.
 fn without_powers(refusal: u64, kind: u64, vertex: u64, power: u64) -> GroundAnswer
     ensures { λ r. ⌜ r ≡ withoutPowers refusal kind vertex power ⌝ }
 {
