@@ -20,6 +20,7 @@ ghost use Rattle.paper.specs.Operations.{opened, bodyPart, judged, pointed, ste
 ghost use Rattle.paper.specs.Pen.{penned};
 ghost use Rattle.paper.specs.RunningSum.{runningSummed};
 ghost use Rattle.grounds.specs.Judged.{judgedBy};
+ghost use Rattle.small.specs.Small.{smallOpened, smallTraced};
 ghost use Rattle.numbers.specs.Numbers.{openNumbers, bodyEntry, bodyNumbers, judgeNumbers, groundNumbers, pointNumbers, stepNumbers};
 ghost use Rattle.numbers.specs.Numbers.{traceNumbers, isSet, penNumbers, sumNumbers};
 
@@ -93,6 +94,23 @@ pub extern "C" fn gethwapiko_trace(job: &[u8], buffer: &mut [u8]) -> TraceAnswer
     ensures written { λ r. ⌜ now (buffer .exit) ≡ bufferAfter (traced (now (job .entry)) (spaceOf (now (job .entry)) (now (buffer .entry)))) (now (buffer .entry)) ⌝ }
 {
     numbers::trace_numbers(trace::trace(job, buffer))
+}
+
+// The small bench cutter's Open.
+#[no_mangle]
+pub extern "C" fn gethwapiko_small_open(job: &[u8]) -> OpenAnswer
+    ensures { λ r. ⌜ r ≡ openNumbers (smallOpened (now (job .entry))) ⌝ }
+{
+    numbers::open_numbers(benchtop::open(job))
+}
+
+// The small bench cutter's Trace; a refusal touches nothing.
+#[no_mangle]
+pub extern "C" fn gethwapiko_small_trace(job: &[u8], buffer: &mut [u8]) -> TraceAnswer
+    ensures answer { λ r. ⌜ r ≡ traceNumbers (verdictAndCount (smallTraced (now (job .entry)) (spaceOf (now (job .entry)) (now (buffer .entry))))) ⌝ }
+    ensures written { λ r. ⌜ now (buffer .exit) ≡ bufferAfter (smallTraced (now (job .entry)) (spaceOf (now (job .entry)) (now (buffer .entry)))) (now (buffer .entry)) ⌝ }
+{
+    numbers::trace_numbers(benchtop::trace(job, buffer))
 }
 
 // Pen: move k of a list of places; any number but 0 marks the list as closed.

@@ -83,10 +83,14 @@ pub open-refused : (s : List ℕ) {r : ℕ} → r ≡ openRefusal s → (r ≡ 0
 unfolding opened
 open-refused s e h = ap refused e ∙ sym (unless-refused (openRefusal s) (openValues s) (λ g. h (e ∙ g)))
 
-pub open-answered : (s : List ℕ) {n a b d : ℕ} → openRefusal s ≡ 0 → n ≡ dimension s → a ≡ polynomialTerms s 1 → b ≡ polynomialTerms s 2
-    → d ≡ polynomialTerms s 3 → answered (n ∷ a ∷ b ∷ d ∷ []) ≡ opened s
-unfolding opened openValues countFrom
-open-answered s h e f g k = rw (e, f, g, k) (sym (unless-answered _ h))
+pub open-values : (s : List ℕ) {n a b d : ℕ} → n ≡ dimension s → a ≡ polynomialTerms s 1 → b ≡ polynomialTerms s 2 → d ≡ polynomialTerms s 3
+    → answered (n ∷ a ∷ b ∷ d ∷ []) ≡ answered (openValues s)
+unfolding openValues countFrom
+open-values s e f g k = rw (e, f, g, k)
+
+pub open-answered : (s : List ℕ) → openRefusal s ≡ 0 → answered (openValues s) ≡ opened s
+unfolding opened
+open-answered s h = sym (unless-answered (openValues s) h)
 
 -- ---- Body's refusal
 

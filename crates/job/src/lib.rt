@@ -9,7 +9,7 @@ ghost use mathlib.Core.Path.{_≡_};
 ghost use mathlib.Core.Bool.{true, false};
 ghost use Prim.Native.Nat.{_+_, _-_, _≤_, _<_};
 ghost use Rattle.paper.specs.Job.{dimension, bias, entryOffset, body, contentsOk, allFrom, polynomialOk, openRefusal};
-ghost use Rattle.paper.specs.Operations.{opened, polynomialTerms, bodyRefusal, bodyPart};
+ghost use Rattle.paper.specs.Operations.{answered, polynomialTerms, openValues, opened, bodyRefusal, bodyPart};
 ghost use Rattle.paper.specs.Answers.{openedAs};
 ghost use Rattle.bits.specs.Axes.{Axes};
 ghost use Rattle.contents.specs.Parts.{BeginsAt};
@@ -97,7 +97,7 @@ pub fn opened_body(job: &[u8], k: usize) -> &[u8]
 }
 
 // The count of terms of polynomial k of a job that opens; 0 if it has no such polynomial.
-fn polynomial_terms(job: &[u8], k: usize) -> u64
+pub fn polynomial_terms(job: &[u8], k: usize) -> u64
     requires { ⌜ openRefusal (now job) ≡ 0 ⌝ }
     ensures { λ r. ⌜ r ≡ polynomialTerms (now (job .entry)) k ⌝ }
 {
@@ -108,6 +108,19 @@ fn polynomial_terms(job: &[u8], k: usize) -> u64
     0
 }
 
+// Open's answer for a job that opens: n and each polynomial's count of terms.
+pub fn opened_values(job: &[u8]) -> Opened
+    requires { ⌜ openRefusal (now job) ≡ 0 ⌝ }
+    ensures { λ r. ⌜ openedAs r ≡ answered (openValues (now (job .entry))) ⌝ }
+{
+    Opened::Job {
+        n: opened_dimension(job) as u64,
+        terms1: polynomial_terms(job, 1),
+        terms2: polynomial_terms(job, 2),
+        terms3: polynomial_terms(job, 3),
+    }
+}
+
 // Open: the refusal's number, or n and each polynomial's count of terms.
 pub fn open(job: &[u8]) -> Opened
     ensures { λ r. ⌜ openedAs r ≡ opened (now (job .entry)) ⌝ }
@@ -116,12 +129,7 @@ pub fn open(job: &[u8]) -> Opened
     if refusal != 0 {
         return Opened::Refused(refusal);
     }
-    Opened::Job {
-        n: opened_dimension(job) as u64,
-        terms1: polynomial_terms(job, 1),
-        terms2: polynomial_terms(job, 2),
-        terms3: polynomial_terms(job, 3),
-    }
+    opened_values(job)
 }
 
 // Body's refusal: Open's, then 12 if the index is not under n + 1; 0 if there is none.

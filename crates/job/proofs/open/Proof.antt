@@ -13,33 +13,13 @@ returns : tie.Need-returns
 unfolding openedAs
 returns c = open-refused _ (c .before .open-refusal .ensures) (c .if1 .taken)
 
-opened-dimension-requires : tie.Need-opened-dimension-requires
-opened-dimension-requires c κs = search needs
-
-polynomial-terms-requires : tie.Need-polynomial-terms-requires
-polynomial-terms-requires c κs = search needs
-
-polynomial-terms-requires-2 : tie.Need-polynomial-terms-requires-2
-polynomial-terms-requires-2 c κs = search needs
-
-polynomial-terms-requires-3 : tie.Need-polynomial-terms-requires-3
-polynomial-terms-requires-3 c κs = search needs
+opened-values-requires : tie.Need-opened-values-requires
+opened-values-requires c κs = search needs
 
 returns-2 : tie.Need-returns-2
-unfolding openedAs
 returns-2 c =
-    let opened = c .before .before .before .before in
-    open-answered _ (sym (opened .before .open-refusal .ensures) ∙ opened .if1 .left) (c .before .before .before .opened-dimension .ensures)
-    (c .before .before .polynomial-terms .ensures) (c .before .polynomial-terms2 .ensures) (c .polynomial-terms3 .ensures)
+    c .opened-values .ensures ∙ open-answered _ (sym (c .before .before .open-refusal .ensures) ∙ c .before .if1 .left)
 
 pub open-spec : {M : Type 1} → statement M
 open-spec =
-    tie.close
-    (tie.spec
-    open-refusal-requires
-    returns
-    opened-dimension-requires
-    polynomial-terms-requires
-    polynomial-terms-requires-2
-    polynomial-terms-requires-3
-    returns-2)
+    tie.close (tie.spec open-refusal-requires returns opened-values-requires returns-2)
