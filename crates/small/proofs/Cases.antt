@@ -2,15 +2,15 @@
 -- Trace and the full one have space for two places.
 use Prim.Native.Nat.{ℕ, _*_, _-_, _%_}
 use mathlib.Core.Path.{_≡_, refl}
-use mathlib.Core.Bool.{Bool, true, cond, _&&_}
+use mathlib.Core.Bool.{true, false, cond}
 use mathlib.Core.List.{List, [], _∷_, _++_, map, flatten, flatMap}
 use lib.IntN.{ℤ, pos, negsuc}
 use lib.Dec.{eqb}
-use lib.ListN.{take, set}
+use lib.ListN.{take, set, replicate}
 use Rattle.exact.specs.Crossed.{countFrom}
 use Rattle.curves.specs.Step.{Stop}
 use Rattle.curves.specs.Walk.{Verdict, loop, full}
-use Rattle.paper.specs.Job.{allFrom, vertexBytes, encodePlace}
+use Rattle.paper.specs.Job.{vertexBytes, encodePlace}
 use Rattle.paper.specs.Operations.{Answer, refused, answered, polynomialTerms, openValues, traced, verdictAndCount}
 use Rattle.paper.proofs.Cases.{bodyOffsets, caseA, place, placesA}
 use Rattle.paper.proofs.Cases4.{entries, jobOf, doubleWordBytes, term, coordinate}
@@ -55,46 +55,79 @@ endBeyond n k = boxed n (set largestBox k (cond (eqb (k % 2) 0) (negsuc 64) (pos
 unfoldable pub withTerms : ℕ → ℕ → ℕ → List ℕ
 withTerms n k m = boxed n largestBox (set axes k (firstTerms m)) (start n (pos 0) 0)
 
--- ---- each end and each polynomial
+-- ---- the limits and the order
 
--- whether the small Open's refusal of each of the m jobs from number k on is r
-unfoldable pub eachRefused : (ℕ → List ℕ) → ℕ → ℕ → ℕ → Bool
+-- the small Open's refusal of each of the jobs; what this unfolds is all that the cases here compute with
+unfoldable pub refusals : List (List ℕ) → List ℕ
 unfolding bodyOffsets flatten flatMap
     entries jobOf doubleWordBytes term coordinate largestBox start boxed axes exponentPairs fifteenTerms firstTerms endBeyond withTerms
     smallCoordinateLimit smallTermLimit endSmall axisSmall boxSmall termsSmall jobSmall smallRefusal smallOpened smallTraceRefusal smallTraced
     polynomialTerms openValues
-eachRefused f k m r = allFrom (λ j. eqb (smallRefusal (f j)) r) k m
+refusals ss = map smallRefusal ss
+
+-- each end at 64, and the last one at 65
+pub taken-at-64 : smallRefusal (boxed 2 largestBox axes (start 2 (pos 0) 0)) ≡ 0
+unfolding refusals
+taken-at-64 = refl
+
+pub turned-away-at-65 : smallRefusal (endBeyond 2 3) ≡ 17
+unfolding refusals
+turned-away-at-65 = refl
+
+-- 16 terms, and 17 in the last polynomial
+pub taken-with-16 : jobSmall (withTerms 3 0 16) ≡ true
+unfolding refusals
+taken-with-16 = refl
+
+pub turned-away-with-17 : jobSmall (withTerms 3 1 17) ≡ false
+unfolding refusals
+turned-away-with-17 = refl
+
+-- 17 after 8, for a start whose side is 2, and before 9, for a start at 65
+pub after-8 : smallRefusal (boxed 2 (set largestBox 0 (negsuc 64)) axes (start 2 (pos 0) 2)) ≡ 8
+unfolding refusals
+after-8 = refl
+
+pub before-9 : smallTraceRefusal (boxed 2 (set largestBox 0 (negsuc 64)) axes (start 2 (pos 65) 0)) ≡ 17
+unfolding refusals
+before-9 = refl
 
 -- each of the 2·n ends alone, past 64 by 1, is 17
-pub each-end : allFrom (λ n. eachRefused (endBeyond n) 0 (2 * n) 17) 2 3 ≡ true
-unfolding eachRefused
+pub each-end : refusals (flatMap (λ (n : ℕ). map (endBeyond n) (countFrom 0 (2 * n))) (2 ∷ 3 ∷ 4 ∷ [])) ≡ replicate 18 17
+unfolding refusals
 each-end = refl
 
 -- each polynomial alone: 17 terms are 17, and 16 are taken; dimension 2 has no more than 15
-pub each-polynomial : allFrom (λ n. eachRefused (λ k. withTerms n k 17) 0 (n - 1) 17 && eachRefused (λ k. withTerms n k 16) 0 (n - 1) 0) 3 2 ≡ true
-unfolding eachRefused
-each-polynomial = refl
+pub each-polynomial-17 : refusals (flatMap (λ (n : ℕ). map (λ (k : ℕ). withTerms n k 17) (countFrom 0 (n - 1))) (3 ∷ 4 ∷ [])) ≡ replicate 5 17
+unfolding refusals
+each-polynomial-17 = refl
+
+pub each-polynomial-16 : refusals (flatMap (λ (n : ℕ). map (λ (k : ℕ). withTerms n k 16) (countFrom 0 (n - 1))) (3 ∷ 4 ∷ [])) ≡ replicate 5 0
+unfolding refusals
+each-polynomial-16 = refl
 
 -- ---- the rows
 
--- a job, the refusal of the small Open (0 if it has none), and what the small Trace and the full one answer
+-- the refusal of the small Open (0 if it has none), and what the small Trace and the full one answer
+abbrev Answered : Type 0
+Answered = ℕ × (Answer (Verdict Stop × ℕ) × Answer (Verdict Stop × ℕ))
+
+-- a job, and what it is answered
 pub record Row : Type 0 where
   pub job : List ℕ
-  pub refusal : ℕ
-  pub small : Answer (Verdict Stop × ℕ)
-  pub whole : Answer (Verdict Stop × ℕ)
+  pub answers : Answered
 
 abbrev row : List ℕ → ℕ → Answer (Verdict Stop × ℕ) → Answer (Verdict Stop × ℕ) → Row
-row s k a b = record { job = s; refusal = k; small = a; whole = b }
+row s k a b = record { job = s; answers = (k, (a, b)) }
 
--- what a row says
-unfoldable pub answers : List ℕ → Row
-answers s = row s (smallRefusal s) (verdictAndCount (smallTraced s 2)) (verdictAndCount (traced s 2))
+unfoldable pub answersTo : List ℕ → Answered
+answersTo s = (smallRefusal s, (verdictAndCount (smallTraced s 2), verdictAndCount (traced s 2)))
 
+-- every row of a table holds
 infixr 5 _also_
 pub data AllHold : List Row → Type 0 where
   end : AllHold []
-  _also_ : {r : Row} {rs : List Row} → answers (r .job) ≡ r → AllHold rs → AllHold (r ∷ rs)
+  _also_ : {r : Row} {rs : List Row} → answersTo (r .job) ≡ r .answers → AllHold rs → AllHold (r ∷ rs)
 
 abbrev two : Answer (Verdict Stop × ℕ)
 two = answered (full, 2)
@@ -133,7 +166,7 @@ markedSmall =
     ∷ [])
 
 pub marked-small-hold : AllHold markedSmall
-unfolding eachRefused answers limitRows markedSmall
+unfolding refusals answersTo limitRows markedSmall
 marked-small-hold =
     -- dimension 2
     refl also refl also refl also refl also refl also refl also refl also refl also refl
@@ -146,9 +179,9 @@ marked-small-hold =
 
 -- A on the small cutter: Open's answer, and the six facets
 pub case-a-opens : smallOpened caseA ≡ answered (2 ∷ 3 ∷ 0 ∷ 0 ∷ [])
-unfolding eachRefused caseA
+unfolding refusals caseA
 case-a-opens = refl
 
 pub case-a-traces : smallTraced caseA 4096 ≡ answered record { verdict = loop; places = placesA }
-unfolding eachRefused caseA placesA
+unfolding refusals caseA placesA
 case-a-traces = refl
