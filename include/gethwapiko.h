@@ -3,7 +3,7 @@
  * Each function answers exactly what the definition of document 01 and of the requests says, for every input; the proof is in crates/cabi, and that
  * of the structs' numbers in crates/numbers.
  * Bytes are handed over as a pointer and a count, and the pointer must be good for that many bytes. Nothing is kept between calls,
- * nothing is allocated, and only the buffer of gethwapiko_trace is written; it must not overlap the job.
+ * nothing is allocated, and only the buffer of a trace is written; it must not overlap the job.
  *
  * The field `refusal` is 0 or the number of the refusal; beside a refusal every other field is 0.
  * A field that an answer does not use is 0: terms2, z and mask2 in dimension 2, terms3, w and mask3 below dimension 4, the place of an
@@ -18,6 +18,8 @@
  *    9  a vertex outside the box          12  index past the last
  *   10  a vertex value not readable       13  the place is not 3n bytes or is malformed; for Pen first, a length that is no multiple of 3n
  *   11  not crossed
+ * and by the small bench cutter's two functions alone, tested after 8 and before 9:
+ *   17  a box end outside -64 to 64, or a polynomial with over 16 terms
  *
  * A place is 3n bytes, little-endian: n signed 16-bit coordinates of the lowest vertex, n - 1 masks, a side 0 or 1.
  *
@@ -133,6 +135,18 @@ StepAnswer gethwapiko_step(const uint8_t *job, size_t job_length, const uint8_t 
  * loop: the next facet is the start's; edge, limit: as in Step; full: no space for the next place.
  * Bytes past the last place written keep their values, and a refusal (9, 10, 11 for the start) touches nothing. */
 TraceAnswer gethwapiko_trace(const uint8_t *job, size_t job_length, uint8_t *buffer, size_t buffer_length);
+
+/* The small bench cutter, whose controller takes box ends from -64 to 64 and at most 16 terms a polynomial, in dimensions 2, 3 and 4. Each function
+ * answers refusal 17, or exactly what the one without `small` in its name answers, the buffer included; 17 exactly if that one opens the job and a
+ * limit of the small cutter is broken. A start beyond 64 with the box inside is 9, as for the full cutter. In dimension 2 no polynomial has over 15
+ * terms. */
+enum { GETHWAPIKO_SMALL_COORDINATE = 64, GETHWAPIKO_SMALL_TERMS = 16, GETHWAPIKO_TOO_LARGE = 17 };
+
+/* Its Open. Refusals 1 to 8, then 17. */
+OpenAnswer gethwapiko_small_open(const uint8_t *job, size_t job_length);
+
+/* Its Trace. Refusals 1 to 8, then 17, then 9, 10, 11 for the start; a refusal touches nothing. */
+TraceAnswer gethwapiko_small_trace(const uint8_t *job, size_t job_length, uint8_t *buffer, size_t buffer_length);
 
 /* Pen: move k of a list of m places, 3n bytes each: k = 0 lifts to place 0, k under m draws to place k, and k = m with m above 0 closes
  * if `closed` is not 0. Refusals 13, 12, then 13, 9, 10, 11 for place k; a close looks at no place. */

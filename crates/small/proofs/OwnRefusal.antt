@@ -1,5 +1,5 @@
--- 17 is answered by the small entries only: no other operation has a refusal above 13. So the small Open answers 17 exactly to the jobs that Open
--- takes and that are too large.
+-- 17 is answered by the small entries only: no other operation has a refusal above 13. So both small entries answer 17 exactly to the jobs that
+-- Open takes and that are too large.
 use mathlib.Core.Path.{_≡_, refl, sym, ap, _∙_}
 use mathlib.Core.Logic.{_≢_, _↔_}
 use mathlib.Core.Bool.{Bool, true, false, not, cond}
@@ -14,9 +14,9 @@ use Rattle.paper.specs.Job.{refuseIf, openRefusal}
 use Rattle.paper.specs.Operations.{Answer, refused, answered, unless, firstRefusal, opened, bodyRefusal, facetRefusal, judgeRefusal, judged, pointRefusal, pointed, stepped, traceRefusal, traced}
 use Rattle.paper.specs.Pen.{closes, penRefusal, penned}
 use Rattle.paper.specs.RunningSum.{runningSumRefusal, runningSummed}
-use Rattle.paper.proofs.Refusals.{refuse-later, first-passes}
+use Rattle.paper.proofs.Refusals.{refuse-later, first-refuses, first-passes}
 use Rattle.grounds.specs.Judged.{judgedBy}
-use Rattle.small.specs.Small.{jobSmall, smallRefusal, TooLarge}
+use Rattle.small.specs.Small.{jobSmall, smallRefusal, smallTraceRefusal, TooLarge}
 use Rattle.small.proofs.TooLarge.{refused-alike, refuses-large, fails-large}
 
 -- ---- the highest number of a chain of refusals
@@ -126,7 +126,7 @@ module _ (s : List ℕ) where
   unfolding runningSummed
   sum-never p v k = not-17 (runningSumRefusal s p v k) _ (sum-most s p v k)
 
-  -- ---- so 17 has one meaning
+  -- ---- so 17 has one meaning, from both entries
 
   pub refusal-17 : (smallRefusal s ≡ 17) ↔ ((openRefusal s ≡ 0) × TooLarge s)
   refusal-17 = (λ h. go h (eqb (openRefusal s) 0) refl, λ h. refuses-large s (h .0) (h .1))
@@ -138,3 +138,15 @@ module _ (s : List ℕ) where
       go : smallRefusal s ≡ 17 → (p : Bool) → eqb (openRefusal s) 0 ≡ p → (openRefusal s ≡ 0) × TooLarge s
       go h true e = let o = eqb-true _ _ e in (o, large o h (jobSmall s) refl)
       go h false e = let d : openRefusal s ≢ 0 = eqb-false _ _ e in absurd (omega (arith, open-most s, sym (refused-alike s d) ∙ h))
+
+  pub trace-refusal-17 : (smallTraceRefusal s ≡ 17) ↔ ((openRefusal s ≡ 0) × TooLarge s)
+  trace-refusal-17 = (λ h. refusal-17 .0 (go h (eqb (smallRefusal s) 0) refl), λ h. back (refusal-17 .1 h))
+    where
+      go : smallTraceRefusal s ≡ 17 → (p : Bool) → eqb (smallRefusal s) 0 ≡ p → smallRefusal s ≡ 17
+      go h true e = unfold smallTraceRefusal in
+          absurd (omega (arith, trace-most s, sym (first-passes (traceRefusal s) (eqb-true (smallRefusal s) 0 e)) ∙ h))
+      go h false e = unfold smallTraceRefusal in
+          let d : smallRefusal s ≢ 0 = eqb-false (smallRefusal s) 0 e in sym (first-refuses (smallRefusal s) (traceRefusal s) d) ∙ h
+
+      back : smallRefusal s ≡ 17 → smallTraceRefusal s ≡ 17
+      back h = unfold smallTraceRefusal in first-refuses (smallRefusal s) (traceRefusal s) (λ e. omega (arith, sym e ∙ h)) ∙ h

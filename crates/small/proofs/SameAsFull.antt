@@ -1,12 +1,14 @@
 -- What the small cutter takes, the full one takes with the same bodies, and both trace it to the same list, verdict or refusal, with the same buffer.
--- What it turns away with 17, it turns away whatever Trace would have said of the start.
-use mathlib.Core.Path.{_≡_, sym, ap, _∙_}
-use mathlib.Core.Bool.{not}
+-- What it turns away with 17, it turns away whatever Trace would have said of the start. So each of its
+-- entries answers 17 or what the full one answers.
+use mathlib.Core.Path.{_≡_, refl, sym, ap, _∙_}
+use mathlib.Core.Bool.{Bool, true, false, not}
 use mathlib.Core.List.{List}
 use mathlib.Core.Logic.{_≢_}
 use Prim.Native.Nat.{ℕ, _+_, _≤_, _<_}
 use native.Mathlib.Omega.{arith}
-use borrow.Author.Tests.{lt-ltb}
+use lib.Dec.{eqb}
+use borrow.Author.Tests.{lt-ltb, eqb-true, eqb-false}
 use Rattle.curves.specs.Grid.{Place}
 use Rattle.curves.specs.Walk.{trace}
 use Rattle.paper.specs.Job.{dimension, body, openRefusal}
@@ -14,7 +16,7 @@ use Rattle.paper.specs.Operations.{refused, answered, unless, firstRefusal, ope
 use Rattle.paper.proofs.Refusals.{refuse-later, first-refuses, first-passes, unless-refused, unless-answered, answered-inv}
 use Rattle.paper.proofs.Bodies.{given-part}
 use Rattle.small.specs.Small.{smallRefusal, smallOpened, smallTraceRefusal, smallTraced, TooLarge}
-use Rattle.small.proofs.TooLarge.{refused-alike, refuses-large, taken-opens}
+use Rattle.small.proofs.TooLarge.{refused-alike, refuses-large, taken-opens, takes}
 
 -- ---- a job that the small cutter takes
 
@@ -100,3 +102,34 @@ module _ (s : List ℕ) (h : openRefusal s ≢ 0) where
 
   pub trace-before-17 : (space : ℕ) → smallTraced s space ≡ refused (openRefusal s)
   trace-before-17 space = traced-refused s not-0 space ∙ ap refused (refused-alike s h)
+
+-- ---- so each entry answers 17, or what the full one answers
+
+module _ (s : List ℕ) where
+  refused-by-both : openRefusal s ≢ 0 → opened s ≡ refused (openRefusal s)
+  unfolding opened
+  refused-by-both h = unless-refused (openRefusal s) (openValues s) h
+
+  untraced-by-both : openRefusal s ≢ 0 → (space : ℕ) → traced s space ≡ refused (openRefusal s)
+  unfolding traced traceRefusal
+  untraced-by-both h space =
+      ap (λ (k : ℕ). unless k (trace (stepIn s) onSameFacet (startOf s) space)) (first-refuses (openRefusal s) _ h)
+      ∙ unless-refused (openRefusal s) _ h
+
+  pub open-or-17 : smallOpened s ≢ refused 17 → smallOpened s ≡ opened s
+  open-or-17 x = go (eqb (openRefusal s) 0) refl
+    where
+      go : (p : Bool) → eqb (openRefusal s) 0 ≡ p → smallOpened s ≡ opened s
+      go false e = let h : openRefusal s ≢ 0 = eqb-false (openRefusal s) 0 e in open-before-17 s h ∙ sym (refused-by-both h)
+      go true e =
+          let o : openRefusal s ≡ 0 = eqb-true (openRefusal s) 0 e in
+          opened-alike s (takes s .1 (o, λ l. x (open-17 s o l)))
+
+  pub trace-or-17 : (space : ℕ) → smallTraced s space ≢ refused 17 → smallTraced s space ≡ traced s space
+  trace-or-17 space x = go (eqb (openRefusal s) 0) refl
+    where
+      go : (p : Bool) → eqb (openRefusal s) 0 ≡ p → smallTraced s space ≡ traced s space
+      go false e = let h : openRefusal s ≢ 0 = eqb-false (openRefusal s) 0 e in trace-before-17 s h space ∙ sym (untraced-by-both h space)
+      go true e =
+          let o : openRefusal s ≡ 0 = eqb-true (openRefusal s) 0 e in
+          same-trace s (takes s .1 (o, λ l. x (trace-17 s o l space))) space
