@@ -151,6 +151,13 @@ extern "C" {
         w: i64,
         terms: u64,
     ) -> SumAnswer;
+    fn gethwapiko_small_open(job: *const u8, job_len: usize) -> OpenAnswer;
+    fn gethwapiko_small_trace(
+        job: *const u8,
+        job_len: usize,
+        buffer: *mut u8,
+        buffer_len: usize,
+    ) -> TraceAnswer;
 }
 
 /// The refusal, if there is one, with the rest of the answer checked to be 0.
@@ -180,6 +187,31 @@ fn used<T: PartialEq + Default>(count: usize, fields: &[T]) -> &[T] {
     used
 }
 
+impl OpenAnswer {
+    /// n and each polynomial's count of terms.
+    fn read(self) -> Result<(usize, Vec<usize>), u8> {
+        let terms = [self.terms1, self.terms2, self.terms3];
+        refused(self.refusal, self.n == 0 && terms == [0; 3])?;
+        let counts = used(self.n as usize - 1, &terms);
+        Ok((self.n as usize, counts.iter().map(|&count| count as usize).collect()))
+    }
+}
+
+impl TraceAnswer {
+    /// Verdict and count.
+    fn read(self) -> Result<(Verdict, usize), u8> {
+        refused(self.refusal, (self.verdict, self.count) == (0, 0))?;
+        let verdict = match self.verdict {
+            0 => Verdict::Loop,
+            1 => Verdict::Edge,
+            2 => Verdict::Limit,
+            3 => Verdict::Full,
+            _ => panic!("no verdict {}", self.verdict),
+        };
+        Ok((verdict, self.count as usize))
+    }
+}
+
 /// The proved library.
 pub struct Library;
 
@@ -188,11 +220,7 @@ pub struct Library;
 impl Product for Library {
     #[inline]
     fn open(&self, job: &[u8]) -> Result<(usize, Vec<usize>), u8> {
-        let a = unsafe { gethwapiko_open(job.as_ptr(), job.len()) };
-        let terms = [a.terms1, a.terms2, a.terms3];
-        refused(a.refusal, a.n == 0 && terms == [0; 3])?;
-        let counts = used(a.n as usize - 1, &terms);
-        Ok((a.n as usize, counts.iter().map(|&count| count as usize).collect()))
+        unsafe { gethwapiko_open(job.as_ptr(), job.len()) }.read()
     }
 
     #[inline]
@@ -266,17 +294,8 @@ impl Product for Library {
 
     #[inline]
     fn trace(&self, job: &[u8], buffer: &mut [u8]) -> Result<(Verdict, usize), u8> {
-        let a =
-            unsafe { gethwapiko_trace(job.as_ptr(), job.len(), buffer.as_mut_ptr(), buffer.len()) };
-        refused(a.refusal, (a.verdict, a.count) == (0, 0))?;
-        let verdict = match a.verdict {
-            0 => Verdict::Loop,
-            1 => Verdict::Edge,
-            2 => Verdict::Limit,
-            3 => Verdict::Full,
-            _ => panic!("no verdict {}", a.verdict),
-        };
-        Ok((verdict, a.count as usize))
+        let (at, length) = (buffer.as_mut_ptr(), buffer.len());
+        unsafe { gethwapiko_trace(job.as_ptr(), job.len(), at, length) }.read()
     }
 
     #[inline]
@@ -315,5 +334,16 @@ impl Product for Library {
         };
         refused(a.refusal, a.sum == 0)?;
         Ok(a.sum as i128)
+    }
+
+    #[inline]
+    fn small_open(&self, job: &[u8]) -> Result<(usize, Vec<usize>), u8> {
+        unsafe { gethwapiko_small_open(job.as_ptr(), job.len()) }.read()
+    }
+
+    #[inline]
+    fn small_trace(&self, job: &[u8], buffer: &mut [u8]) -> Result<(Verdict, usize), u8> {
+        let (at, length) = (buffer.as_mut_ptr(), buffer.len());
+        unsafe { gethwapiko_small_trace(job.as_ptr(), job.len(), at, length) }.read()
     }
 }

@@ -1,5 +1,5 @@
 //! Cases A to J, their like in dimension 4 and at a bias, running sums, halves of a step, grounds,
-//! and the wrong turns on the proved library.
+//! the small cutter, and the wrong turns on the proved library.
 
 use library::ffi::Library;
 use reference::marked;
@@ -32,6 +32,11 @@ fn nearest_step() {
 #[test]
 fn grounds() {
     marked::grounds(&Library);
+}
+
+#[test]
+fn small_cutter() {
+    marked::small_cutter(&Library);
 }
 
 #[test]

@@ -18,18 +18,13 @@ use reference::transitions_met::TransitionsMet;
 const OWN: [Answer; 7] =
     [Err(9), Err(10), Err(11), Ok("loop"), Ok("edge"), Ok("limit"), Ok("full")];
 
-/// A buffer of noise, so that a byte that is written or kept wrongly shows.
-fn noise(r: &mut Random, length: usize) -> Vec<u8> {
-    (0..length).map(|_| r.byte()).collect()
-}
-
 /// Compares answers and buffers; gives both.
 fn compare_buffers(
     r: &mut Random,
     job: &[u8],
     length: usize,
 ) -> (Result<(Verdict, usize), u8>, Vec<u8>) {
-    let before = noise(r, length);
+    let before = r.bytes(length);
     let mut wanted_buffer = before.clone();
     let wanted = Reference.trace(job, &mut wanted_buffer);
     let mut buffer = before.clone();

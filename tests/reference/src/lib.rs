@@ -24,6 +24,8 @@ pub mod marked;
 pub mod operations;
 pub mod product;
 pub mod roundings_met;
+pub mod small;
+pub mod small_checks;
 pub mod sums_met;
 pub mod tally;
 pub mod term_checks;

@@ -39,3 +39,8 @@ pub const LARGEST_COEFFICIENT: i64 = 1_048_576;
 pub const LARGEST_COORDINATE: i64 = 256;
 /// The largest sum of a term's exponents.
 pub const LARGEST_DEGREE: u32 = 4;
+
+/// The small cutter's largest size of a box end. It looks at no other coordinate.
+pub const SMALL_COORDINATE: i64 = 64;
+/// The small cutter's most terms of a polynomial, in each dimension.
+pub const SMALL_TERMS: usize = 16;

@@ -1,5 +1,5 @@
 //! "Marked cases" A to J, their like in dimension 4 and at a bias, running sums, halves of a step,
-//! grounds, and the wrong turns, as checks of any product.
+//! grounds, the small cutter, and the wrong turns, as checks of any product.
 
 use crate::build::{case_a, case_c, exponents, gathered, place, power_of, term, Parts};
 use crate::crossed::Term;
@@ -842,6 +842,156 @@ fn refusals_of_grounds(p: &dyn Product) {
     ] {
         assert_eq!(p.judge_ground(job, place), answer, "{place:?}");
         assert_eq!(p.judge(job, place), answer.map(|ground| says_crossed(&ground)));
+    }
+}
+
+/// Request 2.10: the small bench cutter.
+pub fn small_cutter(p: &dyn Product) {
+    // A and C, with space for all places, for one less and for none: as the full cutter has them.
+    for parts in [case_a(), case_c(2), case_c(3), case_c(4)] {
+        let (job, n) = (parts.bytes(), parts.n);
+        assert_eq!(p.small_open(&job), p.open(&job));
+        for space in [9, n + 1, n, 1, 0] {
+            assert_eq!(small_traced(p, &job, n, space), Ok(traced(p, &job, n, space)));
+        }
+    }
+    let (a, six) = (case_a().bytes(), 6);
+    assert_eq!(p.small_open(&a), Ok((2, vec![3])));
+    assert_eq!(small_traced(p, &a, 2, six).map(|(verdict, _)| verdict), Ok(Verdict::Loop));
+    for n in DIMENSIONS {
+        small_ends(p, n);
+        small_terms(p, n);
+        small_refusals(p, n);
+    }
+}
+
+/// Small trace into a buffer for `space` places and two bytes more.
+fn small_traced(
+    p: &dyn Product,
+    job: &[u8],
+    n: usize,
+    space: usize,
+) -> Result<(Verdict, Vec<Place>), u8> {
+    let size = 3 * n;
+    let mut buffer = vec![PATTERN; size * space + 2];
+    let answer = p.small_trace(job, &mut buffer);
+    let written = answer.map_or(0, |(_, count)| size * count);
+    assert!(buffer[written..].iter().all(|&b| b == PATTERN));
+    let read = |bytes| Place::read(n, bytes).expect("a place");
+    let places = buffer[..written].chunks_exact(size).map(read).collect();
+    answer.map(|(verdict, _)| (verdict, places))
+}
+
+/// The small cutter turns the job away with 17; the full one opens it and traces it to the edge.
+fn assert_too_large(p: &dyn Product, parts: &Parts) {
+    let job = parts.bytes();
+    assert_eq!(p.small_open(&job), Err(17), "{job:?}");
+    assert_eq!(small_traced(p, &job, parts.n, 1_100), Err(17), "{job:?}");
+    assert_eq!(p.open(&job).map(|(n, _)| n), Ok(parts.n));
+    assert_eq!(traced(p, &job, parts.n, 1_100).0, Verdict::Edge);
+}
+
+/// Case C in a box from -64 to 64: from 0 it goes up the last axis, n places a unit, to 64, and
+/// with side 1 down to -64. With an end of any axis at -65 or 65, and in the largest box, it is too
+/// large.
+fn small_ends(p: &dyn Product, n: usize) {
+    let c = Parts { ends: vec![(-64, 64); n], ..case_c(n) };
+    for (start, end) in [(c.start, 64), (c.start.turned(), -64)] {
+        let job = Parts { start, ..c.clone() }.bytes();
+        assert_eq!(p.small_open(&job), Ok((n, vec![1; n - 1])));
+        let (verdict, places) = small_traced(p, &job, n, 300).expect("no refusal");
+        assert_eq!((verdict, places.len()), (Verdict::Edge, 64 * n + 1));
+        assert_eq!(places[64 * n].facet.lowest[n - 1], end);
+        assert_eq!((verdict, places), traced(p, &job, n, 300));
+    }
+    for axis in 0..n {
+        for ends in [(-65, 64), (-64, 65), (-65, 65), (-256, 64), (-64, 256)] {
+            let mut parts = c.clone();
+            parts.ends[axis] = ends;
+            assert_too_large(p, &parts);
+        }
+        // Both ends on one side.
+        for ends in [(65, 66), (-66, -65)] {
+            let mut parts = c.clone();
+            parts.ends[axis] = ends;
+            parts.start.facet.lowest[axis] = if axis == n - 1 { ends.0 } else { 0 };
+            assert_eq!(p.small_open(&parts.bytes()), Err(17));
+            assert_eq!(small_traced(p, &parts.bytes(), n, 9), Err(17));
+            assert!(p.open(&parts.bytes()).is_ok());
+        }
+    }
+    assert_too_large(p, &Parts { ends: vec![(-256, 256); n], ..c });
+}
+
+/// Case C with more terms in a polynomial, all with the last axis: they are 0 on its start. 16 in
+/// every polynomial are taken, 17 in one of them are too many. In dimension 2 there are no more
+/// than 15.
+fn small_terms(p: &dyn Product, n: usize) {
+    let most = Limits::of(n).terms;
+    let with_counts = |counts: &[usize]| {
+        let mut parts = case_c(n);
+        for (polynomial, count) in parts.polynomials.iter_mut().zip(counts) {
+            let with_last = exponents(n).iter().filter(|e| e[n - 1] > 0);
+            polynomial.extend(with_last.take(count - 1).map(|e| term(1, e)));
+            polynomial.sort_by_key(|t| t.exponents);
+        }
+        parts
+    };
+    if n == 2 {
+        let full = exponents(n).iter().map(|e| term(1, e)).collect();
+        let parts = Parts { polynomials: vec![full], ..case_c(n) };
+        assert_eq!(p.small_open(&parts.bytes()), Ok((2, vec![most])));
+        assert_eq!(most, 15);
+        return;
+    }
+    let parts = with_counts(&vec![16; n - 1]);
+    assert_eq!(p.small_open(&parts.bytes()), Ok((n, vec![16; n - 1])));
+    assert_eq!(small_traced(p, &parts.bytes(), n, 9), Ok(traced(p, &parts.bytes(), n, 9)));
+    for k in 0..n - 1 {
+        for others in [1, 16] {
+            let mut counts = vec![others; n - 1];
+            counts[k] = 17;
+            assert_too_large(p, &with_counts(&counts));
+        }
+    }
+}
+
+/// 17 comes after 8 and before 9; a start past 64 is no 17.
+fn small_refusals(p: &dyn Product, n: usize) {
+    let answers = |parts: &Parts| {
+        let job = parts.bytes();
+        (p.small_open(&job).err(), small_traced(p, &job, n, 9).err())
+    };
+    for high in [64, 65] {
+        let c = Parts { ends: vec![(0, high); n], ..case_c(n) };
+        let past = |number| if high == 65 { Some(17) } else { number };
+        // 9: the start at 66, which lies outside both boxes; 11: C's facet E.
+        let mut outside = c.clone();
+        outside.start.facet.lowest[0] = 66;
+        assert_eq!(answers(&outside), (past(None), past(Some(9))));
+        let masks = [2, 3, 7];
+        let e = place(&vec![0; n], &masks[..n - 1], 0);
+        assert_eq!(answers(&Parts { start: e, ..c.clone() }), (past(None), past(Some(11))));
+        // 10: 1,048,576 x^2 is readable at 16 at most.
+        let mut unreadable = c.clone();
+        unreadable.polynomials[0] = vec![term(1_048_576, &[2])];
+        unreadable.start.facet.lowest[0] = 20;
+        assert_eq!(answers(&unreadable), (past(None), past(Some(10))));
+        // 8, 7 and 6 come first.
+        let side = Parts { start: Place { side: 2, ..c.start }, ..c.clone() };
+        assert_eq!(answers(&side), (Some(8), Some(8)));
+        let mut zero = side.clone();
+        zero.polynomials[n - 2][0].coefficient = 0;
+        assert_eq!(answers(&zero), (Some(7), Some(7)));
+        zero.ends[n - 1] = (high, high);
+        assert_eq!(answers(&zero), (Some(6), Some(6)));
+    }
+    // A start at 65, and one that ends there, in a box to 64.
+    let c = Parts { ends: vec![(-64, 64); n], ..case_c(n) };
+    for x in [65, 64, -65, 256, 1000, 32_767, -32_768] {
+        let mut parts = c.clone();
+        parts.start.facet.lowest[0] = x;
+        assert_eq!(answers(&parts), (None, Some(9)), "{x}");
     }
 }
 

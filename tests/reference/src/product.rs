@@ -3,9 +3,10 @@
 
 use crate::grid::Vertex;
 use crate::ground::{self, Ground};
-use crate::job;
+use crate::job::{self, Job};
 use crate::limits::MOST;
 use crate::operations::{self, Move, Step, Verdict};
+use crate::small;
 
 /// Everything the product answers. A refusal is its number.
 pub trait Product {
@@ -29,6 +30,15 @@ pub trait Product {
         coordinates: &[i64; MOST],
         terms: u64,
     ) -> Result<i128, u8>;
+    /// Open of the small cutter.
+    fn small_open(&self, job: &[u8]) -> Result<(usize, Vec<usize>), u8>;
+    /// Trace of the small cutter.
+    fn small_trace(&self, job: &[u8], buffer: &mut [u8]) -> Result<(Verdict, usize), u8>;
+}
+
+/// What Open answers to a job that opens.
+fn counts(opened: Job) -> (usize, Vec<usize>) {
+    (opened.n, opened.polynomials.iter().map(|p| p.len()).collect())
 }
 
 /// The reference.
@@ -36,8 +46,7 @@ pub struct Reference;
 
 impl Product for Reference {
     fn open(&self, job: &[u8]) -> Result<(usize, Vec<usize>), u8> {
-        let opened = job::open(job)?;
-        Ok((opened.n, opened.polynomials.iter().map(|p| p.len()).collect()))
+        job::open(job).map(counts)
     }
     fn body(&self, job: &[u8], index: u64) -> Result<(usize, usize), u8> {
         operations::body(job, index)
@@ -68,5 +77,11 @@ impl Product for Reference {
         terms: u64,
     ) -> Result<i128, u8> {
         operations::running_sum(job, polynomial, coordinates, terms)
+    }
+    fn small_open(&self, job: &[u8]) -> Result<(usize, Vec<usize>), u8> {
+        small::small_open(job).map(counts)
+    }
+    fn small_trace(&self, job: &[u8], buffer: &mut [u8]) -> Result<(Verdict, usize), u8> {
+        small::small_trace(job, buffer)
     }
 }

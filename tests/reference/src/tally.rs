@@ -66,6 +66,11 @@ impl<T: Ord + Copy + Debug> Tally<T> {
         assert_eq!(met, wanted, "in dimension {n}");
     }
 
+    /// Fails unless so many were met in each dimension, all together.
+    pub fn assert_totals(&self, wanted: ByDimension) {
+        assert_eq!(DIMENSIONS.map(|n| self.of(n).values().sum::<u64>()), wanted);
+    }
+
     /// Fails unless exactly these were met in each dimension.
     pub fn assert_met(&self, wanted: &[T]) {
         DIMENSIONS.into_iter().for_each(|n| self.assert_met_in(n, wanted));

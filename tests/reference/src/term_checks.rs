@@ -575,7 +575,7 @@ pub fn random_bodies(product: &impl Product, seed: u64, jobs: usize, least: u64)
 }
 
 /// The refusals that may come with 7 in one job, and how many ways there are to each.
-const OTHER_REFUSALS: [(u8, usize); 6] = [(2, 3), (3, 4), (4, 3), (5, 6), (6, 4), (8, 3)];
+pub const OTHER_REFUSALS: [(u8, usize); 6] = [(2, 3), (3, 4), (4, 3), (5, 6), (6, 4), (8, 3)];
 
 /// A way to a refusal that a body leads to.
 fn spoil_body(n: usize, polynomial: usize, refusal: u8, way: usize, bodies: &mut [Vec<u8>]) {
@@ -612,7 +612,7 @@ fn spoil_contents(n: usize, refusal: u8, way: usize, job: &mut Vec<u8>) {
 }
 
 /// The job of these parts, spoiled in these ways.
-fn spoiled(parts: &Parts, polynomial: usize, ways: &[(u8, usize)]) -> Vec<u8> {
+pub fn spoiled(parts: &Parts, polynomial: usize, ways: &[(u8, usize)]) -> Vec<u8> {
     let mut bodies = parts.bodies();
     for &(refusal, way) in ways {
         spoil_body(parts.n, polynomial, refusal, way, &mut bodies);

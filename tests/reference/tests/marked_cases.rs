@@ -1,5 +1,5 @@
 //! Cases A to J, their like in dimension 4 and at a bias, running sums, halves of a step, grounds,
-//! and the wrong turns on the reference.
+//! the small cutter, and the wrong turns on the reference.
 
 use reference::build::{case_a, case_c};
 use reference::listing::listing;
@@ -34,6 +34,11 @@ fn nearest_step() {
 #[test]
 fn grounds() {
     marked::grounds(&Reference);
+}
+
+#[test]
+fn small_cutter() {
+    marked::small_cutter(&Reference);
 }
 
 #[test]

@@ -228,15 +228,18 @@ pub struct AnyJob {
 impl AnyJob {
     /// The dimension in byte 1, or that of the job that they were made of if there is none.
     pub fn n(&self) -> usize {
-        let written = self.bytes.get(1).map(|&byte| byte as usize);
-        written.filter(|n| DIMENSIONS.contains(n)).unwrap_or(self.made_in)
+        dimension_written(&self.bytes, self.made_in)
     }
 }
 
-/// Any bytes to hand to Open.
-pub fn any_job(r: &mut Random) -> AnyJob {
-    let search = r.once_in(4);
-    let (made, parts) = valid_of_any(r, search);
+/// The dimension in byte 1, or the other if there is none.
+pub fn dimension_written(job: &[u8], other: usize) -> usize {
+    let written = job.get(1).map(|&byte| byte as usize);
+    written.filter(|n| DIMENSIONS.contains(n)).unwrap_or(other)
+}
+
+/// The bytes of a job after any change, which it names, with its damages.
+pub fn any_change(r: &mut Random, parts: &Parts) -> (Vec<u8>, Change, Vec<Damage>) {
     let change = r.named();
     let count = match change {
         Change::DamagedOnce => 1,
@@ -244,7 +247,14 @@ pub fn any_job(r: &mut Random) -> AnyJob {
         _ => 0,
     };
     let damages: Vec<Damage> = (0..count).map(|_| r.named()).collect();
-    let bytes = changed(r, &parts, change, &damages);
+    (changed(r, parts, change, &damages), change, damages)
+}
+
+/// Any bytes to hand to Open.
+pub fn any_job(r: &mut Random) -> AnyJob {
+    let search = r.once_in(4);
+    let (made, parts) = valid_of_any(r, search);
+    let (bytes, change, damages) = any_change(r, &parts);
     AnyJob { bytes, made_in: parts.n, made, change, damages }
 }
 

@@ -88,7 +88,7 @@ pub struct Scale {
     /// A size of their coefficients at which most values of that box are readable.
     coefficient: i64,
     /// The largest radius of a closed curve.
-    radius: i64,
+    pub radius: i64,
     /// How many vertices of the box are tried for a crossed start.
     tries: usize,
 }

@@ -20,6 +20,11 @@ impl Random {
         self.bits() as u8
     }
 
+    /// So many bytes of noise. In a buffer, a byte that is written or kept wrongly shows.
+    pub fn bytes(&mut self, length: usize) -> Vec<u8> {
+        (0..length).map(|_| self.byte()).collect()
+    }
+
     /// A number under n.
     pub fn below(&mut self, n: u64) -> u64 {
         (self.bits() >> 16) % n
