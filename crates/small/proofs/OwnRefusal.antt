@@ -4,14 +4,14 @@ use mathlib.Core.Path.{_≡_, refl, sym, ap, _∙_}
 use mathlib.Core.Logic.{_≢_, _↔_}
 use mathlib.Core.Bool.{Bool, true, false, not, cond}
 use mathlib.Core.List.{List}
-use Prim.Native.Nat.{ℕ, suc, zero, _+_, _≤_}
+use Prim.Native.Nat.{ℕ, suc, zero, _≤_}
 use native.Mathlib.Omega.{arith}
 use lib.IntN.{ℤ}
 use lib.Dec.{eqb, lit≤}
 use borrow.Author.Tests.{eqb-true, eqb-false}
 use Rattle.curves.specs.Grid.{Facet}
 use Rattle.paper.specs.Job.{refuseIf, openRefusal}
-use Rattle.paper.specs.Operations.{Answer, refused, answered, unless, firstRefusal, opened, bodyRefusal, facetRefusal, judgeRefusal, judged, pointRefusal, pointed, stepped, traceRefusal, traced}
+use Rattle.paper.specs.Operations.{refused, answered, unless, firstRefusal, opened, bodyRefusal, facetRefusal, judgeRefusal, judged, pointRefusal, pointed, stepped, traceRefusal, traced}
 use Rattle.paper.specs.Pen.{closes, penRefusal, penned}
 use Rattle.paper.specs.RunningSum.{runningSumRefusal, runningSummed}
 use Rattle.paper.proofs.Refusals.{refuse-later, first-refuses, first-passes}

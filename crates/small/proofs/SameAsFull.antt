@@ -5,32 +5,19 @@ use mathlib.Core.Path.{_≡_, refl, sym, ap, _∙_}
 use mathlib.Core.Bool.{Bool, true, false, not}
 use mathlib.Core.List.{List}
 use mathlib.Core.Logic.{_≢_}
-use Prim.Native.Nat.{ℕ, _+_, _≤_, _<_}
+use Prim.Native.Nat.{ℕ, _+_, _≤_}
 use native.Mathlib.Omega.{arith}
 use lib.Dec.{eqb}
 use borrow.Author.Tests.{lt-ltb, eqb-true, eqb-false}
-use Rattle.curves.specs.Grid.{Place}
 use Rattle.curves.specs.Walk.{trace}
-use Rattle.paper.specs.Job.{dimension, body, openRefusal}
-use Rattle.paper.specs.Operations.{refused, answered, unless, firstRefusal, openValues, opened, bodyRefusal, bodyPart, stepIn, startOf, traceRefusal, onSameFacet, traced, spaceOf, verdictAndCount, bufferAfter}
+use Rattle.paper.specs.Job.{dimension, openRefusal}
+use Rattle.paper.specs.Operations.{refused, answered, unless, openValues, opened, bodyRefusal, stepIn, startOf, traceRefusal, onSameFacet, traced, spaceOf, verdictAndCount, bufferAfter}
 use Rattle.paper.proofs.Refusals.{refuse-later, first-refuses, first-passes, unless-refused, unless-answered, answered-inv}
 use Rattle.paper.proofs.Bodies.{given-part}
-use Rattle.small.specs.Small.{smallRefusal, smallOpened, smallTraceRefusal, smallTraced, TooLarge}
+use Rattle.small.specs.Small.{smallRefusal, smallOpened, smallTraceRefusal, smallTraced, TooLarge, TakenByFull, TracedAlike}
 use Rattle.small.proofs.TooLarge.{refused-alike, refuses-large, taken-opens, takes}
 
 -- ---- a job that the small cutter takes
-
--- the full one opens it to the same answer, and its Body gives each of the bodies that both go by
-pub record TakenByFull (s v : List ℕ) : Type 0 where
-  pub opens : opened s ≡ answered v
-  pub index : (k : ℕ) → k ≤ dimension s → bodyRefusal s k ≡ 0
-  pub bodies : (k : ℕ) → k ≤ dimension s → bodyPart s k ≡ body s k
-
--- the list and verdict, or the refusal, what is answered of them, and what the buffer holds at exit
-pub record TracedAlike (s buffer : List ℕ) : Type 0 where
-  pub list : smallTraced s (spaceOf s buffer) ≡ traced s (spaceOf s buffer)
-  pub answer : verdictAndCount (smallTraced s (spaceOf s buffer)) ≡ verdictAndCount (traced s (spaceOf s buffer))
-  pub written : bufferAfter (smallTraced s (spaceOf s buffer)) buffer ≡ bufferAfter (traced s (spaceOf s buffer)) buffer
 
 module _ (s : List ℕ) (h : smallRefusal s ≡ 0) where
   pub taken-answered : smallOpened s ≡ answered (openValues s)

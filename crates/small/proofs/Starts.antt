@@ -1,16 +1,14 @@
 -- The start of a job on the small cutter. One beyond 64 on some axis, with the box inside, is refused by the small Trace with 9, as by the full one. And
 -- the small limits do not look at the start: the same job with another start is taken too, so traces from other places of a curve are alike as well.
 use mathlib.Core.Path.{_≡_, refl, sym, ap, subst, _∙_}
-use mathlib.Core.Bool.{Bool, true, false, not, cond, _&&_}
+use mathlib.Core.Bool.{Bool, true, false, not, _&&_}
 use mathlib.Core.List.{List, [], _∷_, map}
 use Prim.Native.Nat.{ℕ, suc, zero, _+_, _*_, _-_, _≤_, _<_}
 use native.Mathlib.Omega.{arith}
 use lib.IntN.{ℤ, pos, natAbs}
-use lib.Dec.{leb, ltb}
 use lib.ListN.{length, getD}
 use lib.Signed.{leZ}
 use Rattle.exact.specs.Int.{0ℤ, neg}
-use Rattle.exact.specs.Crossed.{countFrom}
 use Rattle.exact.proofs.AndTests.{and-left, and-right}
 use Rattle.exact.proofs.CountFrom.{length-map-countFrom}
 use Rattle.curves.specs.Grid.{Vertex, Place, facetVertices, plus}
@@ -18,13 +16,13 @@ use Rattle.curves.specs.Step.{every}
 use Rattle.paper.specs.Bytes.{signedWord}
 use Rattle.paper.specs.Job.{dimension, body, lowEnd, highEnd, allFrom, decodePlace, withStart, openRefusal}
 use Rattle.paper.specs.Values.{insideFrom, fieldFrom, fieldOf}
-use Rattle.paper.specs.Operations.{refused, unless, firstRefusal, polynomialTerms, facetRefusal, startOf, traceRefusal, traced}
+use Rattle.paper.specs.Operations.{refused, polynomialTerms, facetRefusal, startOf, traceRefusal, traced}
 use Rattle.paper.proofs.Tests.{all-same}
 use Rattle.paper.proofs.Refusals.{refuse-here, refuse-later, first-refuses, first-passes, unless-refused}
 use Rattle.paper.proofs.Opens.{Opens, opens, opens-range}
 use Rattle.paper.proofs.Terms.{between-size}
 use Rattle.paper.proofs.WithStart.{withStart-dimension, withStart-body}
-use Rattle.small.specs.Small.{smallCoordinateLimit, endSmall, axisSmall, boxSmall, termsSmall, jobSmall, smallRefusal, smallTraced}
+use Rattle.small.specs.Small.{smallCoordinateLimit, endSmall, axisSmall, termsSmall, jobSmall, smallRefusal, smallTraced}
 use Rattle.small.proofs.TooLarge.{ends-small, taken-opens, taken-small}
 use Rattle.small.proofs.SameAsFull.{same-trace}
 

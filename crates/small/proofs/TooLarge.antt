@@ -2,9 +2,9 @@
 -- terms; it takes exactly the other jobs that Open does not refuse, and answers Open's own number to those that Open refuses.
 use mathlib.Core.Path.{_≡_, refl, sym, ap, _∙_}
 use mathlib.Core.Logic.{_≢_, _↔_}
-use mathlib.Core.Bool.{Bool, true, false, not, cond, _&&_, true≢false}
+use mathlib.Core.Bool.{Bool, true, false, not, _&&_}
 use mathlib.Core.List.{List}
-use Prim.Native.Nat.{ℕ, suc, zero, _+_, _-_, _≤_, _<_, compare·suc-suc}
+use Prim.Native.Nat.{ℕ, suc, zero, _-_, _≤_, _<_, compare·suc-suc}
 use native.Mathlib.Omega.{arith}
 use lib.IntN.{ℤ, pos, negsuc, natAbs}
 use lib.Dec.{leb, lit<}
@@ -13,7 +13,7 @@ use borrow.Author.Tests.{lt-ltb, leb-true, leb-false, le-leb, lt-leb, not-false}
 use Rattle.exact.specs.Int.{neg}
 use Rattle.exact.proofs.AndTests.{and-left, and-right}
 use Rattle.paper.specs.Job.{dimension, body, lowEnd, highEnd, allFrom, termCount, refuseIf, openRefusal}
-use Rattle.paper.specs.Operations.{firstRefusal, polynomialTerms}
+use Rattle.paper.specs.Operations.{polynomialTerms}
 use Rattle.paper.proofs.Tests.{all-at, all-failing}
 use Rattle.paper.proofs.Refusals.{not-refused, refuse-here, refuse-later, neither-refused, first-refuses, first-passes}
 use Rattle.small.specs.Small.{smallCoordinateLimit, smallTermLimit, endSmall, axisSmall, boxSmall, termsSmall, jobSmall, smallRefusal, TooLarge, low-end, high-end, terms}

@@ -1,6 +1,7 @@
 -- The small bench cutter: document 02, request 2.10. It opens and traces jobs by two entries of its own: the paper's Open and Trace, with all their
 -- limits, and one more test behind Open's.
-use Prim.Native.Nat.{ℕ, _-_, _<_}
+use Prim.Native.Nat.{ℕ, _-_, _≤_, _<_}
+use mathlib.Core.Path.{_≡_}
 use mathlib.Core.Bool.{Bool, not, _&&_}
 use mathlib.Core.List.{List}
 use lib.IntN.{ℤ, pos, natAbs}
@@ -11,7 +12,7 @@ use Rattle.curves.specs.Grid.{Place}
 use Rattle.curves.specs.Walk.{Trace, trace}
 use Rattle.curves.specs.Step.{Stop}
 use Rattle.paper.specs.Job.{dimension, body, lowEnd, highEnd, allFrom, termCount, refuseIf, openRefusal}
-use Rattle.paper.specs.Operations.{Answer, unless, firstRefusal, polynomialTerms, openValues, stepIn, startOf, onSameFacet, traceRefusal}
+use Rattle.paper.specs.Operations.{Answer, answered, unless, firstRefusal, polynomialTerms, openValues, opened, bodyRefusal, bodyPart, stepIn, startOf, onSameFacet, traceRefusal, traced, spaceOf, verdictAndCount, bufferAfter}
 
 -- ---- what its controller takes
 
@@ -63,3 +64,17 @@ pub data TooLarge (s : List ℕ) : Type 0 where
   low-end : (a : ℕ) → a < dimension s → smallCoordinateLimit < natAbs (lowEnd (body s 0) a) → TooLarge s
   high-end : (a : ℕ) → a < dimension s → smallCoordinateLimit < natAbs (highEnd (body s 0) a) → TooLarge s
   terms : (k : ℕ) → 0 < k → k < dimension s → smallTermLimit < termCount (body s k) → TooLarge s
+
+-- ---- what is said of both cutters
+
+-- a job that the small one opens to the values v: the full one opens it to the same, and its Body gives each of the bodies that both go by
+pub record TakenByFull (s v : List ℕ) : Type 0 where
+  pub opens : opened s ≡ answered v
+  pub index : (k : ℕ) → k ≤ dimension s → bodyRefusal s k ≡ 0
+  pub bodies : (k : ℕ) → k ≤ dimension s → bodyPart s k ≡ body s k
+
+-- both trace it alike: list and verdict, or refusal; what is answered of them; and what the buffer holds at exit
+pub record TracedAlike (s buffer : List ℕ) : Type 0 where
+  pub list : smallTraced s (spaceOf s buffer) ≡ traced s (spaceOf s buffer)
+  pub answer : verdictAndCount (smallTraced s (spaceOf s buffer)) ≡ verdictAndCount (traced s (spaceOf s buffer))
+  pub written : bufferAfter (smallTraced s (spaceOf s buffer)) buffer ≡ bufferAfter (traced s (spaceOf s buffer)) buffer
