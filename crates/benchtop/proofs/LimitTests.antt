@@ -1,30 +1,64 @@
--- The tests of the small cutter's limits with the numbers that the code read in place of the definitions' own.
-use mathlib.Core.Path.{_≡_, sym, ap, _∙_}
-use mathlib.Core.Bool.{Bool, true, false, _&&_}
+-- The tests of the small cutter's limits: the box between − 64 and 64, and the counts of terms as they were read.
+use mathlib.Core.Path.{_≡_, refl, sym, _∙_}
+use mathlib.Core.Bool.{Bool, true, false, _&&_, false≢true}
 use mathlib.Core.List.{List}
-use Prim.Native.Nat.{ℕ, _+_, _*_, _-_, _≤_, _<_}
+use Prim.Native.Nat.{ℕ, _-_, _≤_, _<_}
 use native.Mathlib.Omega.{arith}
-use lib.IntN.{ℤ, natAbs}
-use lib.Dec.{leb}
-use mir.Syntax.{w64}
-use mir.Val.{SFits}
-use borrow.Author.Tests.{le-leb, lt-leb}
-use Rattle.exact.proofs.Bits.{back}
-use Rattle.bits.proofs.SignedBits.{bits-are}
-use Rattle.paper.specs.Bytes.{signedWord}
-use Rattle.paper.specs.Job.{dimension, body, lowEnd, highEnd, allFrom}
+use lib.IntN.{ℤ, pos, negsuc, natAbs}
+use lib.Signed.{leZ, ltZ}
+use borrow.Author.Tests.{le-leb, lt-leb, ltb-true}
+use Rattle.exact.specs.Int.{neg}
+use Rattle.exact.proofs.AndTests.{and-false}
+use Rattle.paper.specs.Job.{dimension, body, lowEnd, highEnd, allFrom, boxOk}
 use Rattle.paper.specs.Operations.{polynomialTerms}
+use Rattle.paper.proofs.Tests.{all-same}
+use Rattle.paper.proofs.Terms.{between-size, box-axis}
+use Rattle.contents.specs.Between.{axisBetween, boxBetween}
+use Rattle.job.specs.OpenJob.{JobOf}
+use Rattle.job.proofs.OpenJob.{job-opens}
 use Rattle.small.specs.Small.{smallCoordinateLimit, smallTermLimit, endSmall, axisSmall, boxSmall, termsSmall, jobSmall}
 use Rattle.small.proofs.TooLarge.{end-test}
 
-pub size-decides : (z : ℤ) {m : ℕ} → SFits w64 z → m ≡ natAbs (back z) → leb m 64 ≡ endSmall z
-unfolding smallCoordinateLimit
-size-decides z h e = ap (λ (k : ℕ). leb k 64) (e ∙ ap natAbs (bits-are h)) ∙ sym (end-test z)
+-- ---- the ends of an axis
 
-pub ends-decide : (b : List ℕ) (a : ℕ) {p q : Bool} {low high : ℤ} → p ≡ endSmall low → low ≡ signedWord b (4 * a) → q ≡ endSmall high
-    → high ≡ signedWord b (4 * a + 2) → (p && q) ≡ axisSmall b a
-unfolding axisSmall lowEnd highEnd
-ends-decide b a e f g h = rw (e, f, g, h)
+le-self : (x : ℤ) → leZ x x ≡ true
+le-self (pos a) = le-leb a a (omega arith)
+le-self (negsuc a) = le-leb a a (omega arith)
+
+lt-le : (x y : ℤ) → ltZ x y ≡ true → leZ x y ≡ true
+lt-le (pos a) (pos b) h = le-leb a b (omega (arith, ltb-true a b h))
+lt-le (pos a) (negsuc b) h = absurd (false≢true h)
+lt-le (negsuc a) (pos b) h = refl
+lt-le (negsuc a) (negsuc b) h = le-leb b a (omega (arith, ltb-true b a h))
+
+-- of an axis whose low end is under its high one, both ends lie from − 64 to 64 exactly if the low one is not under − 64 and the high one not over 64
+ends-between : (low high : ℤ) → ltZ low high ≡ true
+    → (leZ (neg (pos smallCoordinateLimit)) low && (ltZ low high && leZ high (pos smallCoordinateLimit))) ≡ (endSmall low && endSmall high)
+ends-between low high h = go (leZ (neg (pos m)) low) (leZ high (pos m)) refl refl
+  where
+    m : ℕ
+    m = smallCoordinateLimit
+
+    size : leZ (neg (pos m)) low ≡ true → leZ high (pos m) ≡ true → (z : ℤ) → leZ low z ≡ true → leZ z high ≡ true → endSmall z ≡ true
+    size p q z f g = end-test z ∙ le-leb (natAbs z) m (between-size m low high z p f g q)
+
+    over : leZ high (pos m) ≡ false → endSmall high ≡ false
+    over q = unfold endSmall in and-false (leZ (neg (pos m)) high) q
+
+    go : (p q : Bool) → leZ (neg (pos m)) low ≡ p → leZ high (pos m) ≡ q
+        → (leZ (neg (pos m)) low && (ltZ low high && leZ high (pos m))) ≡ (endSmall low && endSmall high)
+    go true true e f = rw (e, f, h, size e f low (le-self low) (lt-le low high h), size e f high (lt-le low high h) (le-self high))
+    go true false e f = rw (e, f, h, over f) (sym (and-false (endSmall low) refl))
+    go false q e f = unfold endSmall in rw e
+
+-- a box of the paper: the test with the two limits is that of the small cutter
+pub box-decides : (n : ℕ) (b : List ℕ) → boxOk n b ≡ true → boxBetween (negsuc 63) (pos 64) n b ≡ boxSmall n b
+unfolding boxBetween boxSmall
+box-decides n b h = all-same (axisBetween (negsuc 63) (pos 64) b) (axisSmall b) 0 n (λ a l u. axis a (omega arith))
+  where
+    axis : (a : ℕ) → a < n → axisBetween (negsuc 63) (pos 64) b a ≡ axisSmall b a
+    axis a l = unfold axisBetween in unfold axisSmall in unfold smallCoordinateLimit in unfold neg in
+        ends-between (lowEnd b a) (highEnd b a) (box-axis n b a h l .rising)
 
 -- ---- a polynomial's count of terms
 
@@ -38,12 +72,18 @@ count-within s k e h = le-leb (polynomialTerms s k) 16 (omega (arith, e, h))
 
 -- ---- the job
 
--- n is the job's dimension, b the body of its box
-module _ (s : List ℕ) {n : ℕ} {b : List ℕ} (d : n ≡ dimension s) (e : b ≡ body s 0) {p : Bool} (f : p ≡ boxSmall n b) where
+-- b is the body of its box
+module _ {n : ℕ} {s : List ℕ} (j : JobOf n s) {b : List ℕ} (e : b ≡ body s 0) {p : Bool} (f : p ≡ boxBetween (negsuc 63) (pos 64) n b) where
+  box-is : boxSmall (dimension s) (body s 0) ≡ p
+  box-is =
+      let d = j .dimension in
+      let same : boxBetween (negsuc 63) (pos 64) (dimension s) (body s 0) ≡ p = rw (← d, ← e) (sym f) in
+      sym (box-decides (dimension s) (body s 0) (job-opens j .box)) ∙ same
+
   pub box-over : p ≡ false → false ≡ jobSmall s
   unfolding jobSmall
-  box-over h = let t : boxSmall (dimension s) (body s 0) ≡ false = rw (← d, ← e, ← f, h) in rw t
+  box-over h = rw (box-is, h)
 
   pub polynomials-decide : p ≡ true → {q : Bool} → q ≡ allFrom (termsSmall s) 1 (n - 1) → q ≡ jobSmall s
   unfolding jobSmall
-  polynomials-decide h g = let t : boxSmall (dimension s) (body s 0) ≡ true = rw (← d, ← e, ← f, h) in rw (t, ← d) g
+  polynomials-decide h g = let d = j .dimension in rw (box-is, h, ← d) g

@@ -1,48 +1,18 @@
 // The limits of the small bench cutter's controller, tested in a job that has opened.
 
-use bits::read;
+use contents::boxes;
 ghost use mathlib.Core.Path.{_≡_};
-ghost use Prim.Native.Nat.{_+_, _*_, _-_, _≤_};
-ghost use lib.ListN.{length};
+ghost use Prim.Native.Nat.{_-_};
 ghost use Rattle.paper.specs.Job.{allFrom};
 ghost use Rattle.job.specs.OpenJob.{JobOf};
-ghost use Rattle.small.specs.Small.{endSmall, axisSmall, boxSmall, termsSmall, jobSmall};
+ghost use Rattle.small.specs.Small.{termsSmall, jobSmall};
 
-// The largest coordinate in size, and the most terms of a polynomial.
-const LARGEST: u64 = 64;
+// Box ends lie from the lowest to the highest coordinate.
+const LOWEST: i64 = -64;
+
+const HIGHEST: i64 = 64;
 
 const MOST_TERMS: u64 = 16;
-
-// A box end lies within the limits.
-fn end_small(z: i64) -> bool
-    ensures { λ r. ⌜ r ≡ endSmall z ⌝ }
-{
-    read::size(z) <= LARGEST
-}
-
-// Both ends of an axis do.
-fn axis_small(b: &[u8], a: usize) -> bool
-    requires { ⌜ 4 * a + 4 ≤ length (now b) ⌝ }
-    ensures { λ r. ⌜ r ≡ axisSmall (now (b .entry)) a ⌝ }
-{
-    let low = read::signed_word(b, 4 * a);
-    let high = read::signed_word(b, 4 * a + 2);
-    end_small(low) & end_small(high)
-}
-
-fn box_small(n: usize, b: &[u8]) -> bool
-    requires { ⌜ length (now b) ≡ 4 * n ⌝ }
-    ensures { λ r. ⌜ r ≡ boxSmall n (now (b .entry)) ⌝ }
-{
-    let mut a = 0;
-    while a < n {
-        if !axis_small(b, a) {
-            return false;
-        }
-        a += 1;
-    }
-    true
-}
 
 // No polynomial has too many terms.
 fn polynomials_small(n: usize, job: &[u8]) -> bool
@@ -64,7 +34,7 @@ pub fn job_small(n: usize, job: &[u8]) -> bool
     requires { ⌜ JobOf n (now job) ⌝ }
     ensures { λ r. ⌜ r ≡ jobSmall (now (job .entry)) ⌝ }
 {
-    if box_small(n, job::opened_body(job, 0)) {
+    if boxes::box_between(LOWEST, HIGHEST, n, job::opened_body(job, 0)) {
         return polynomials_small(n, job);
     }
     false

@@ -7,12 +7,9 @@ use native.Mathlib.Omega.{arith}
 use lib.Dec.{eqb}
 use borrow.Author.Tests.{eqb-true, eqb-false}
 use Rattle.exact.specs.Crossed.{countFrom, remove}
+use Rattle.exact.proofs.AndTests.{and-false}
 use Rattle.exact.proofs.CountFrom.{map-countFrom-ext}
 use Rattle.curves.specs.Step.{every}
-
-and-false : (a b : Bool) → b ≡ false → (a && b) ≡ false
-and-false true b e = e
-and-false false b e = refl
 
 module _ {A : Type 0} (t : A → Bool) (f : ℕ → A) where
   fails-from : (k m i : ℕ) → k ≤ i → i < k + m → t (f i) ≡ false → every t (map f (countFrom k m)) ≡ false
@@ -24,7 +21,7 @@ module _ {A : Type 0} (t : A → Bool) (f : ℕ → A) where
           → (t (f k) && every t (map f (countFrom (suc k) m))) ≡ false
       go later true e = rw (eqb-true k i e, h)
       go later false e =
-          and-false (t (f k)) (every t (map f (countFrom (suc k) m))) (later (omega (arith, eqb-false k i e)) (omega arith) h)
+          and-false (t (f k)) (later (omega (arith, eqb-false k i e)) (omega arith) h)
 
   pub every-fails : (m i : ℕ) → i < m → t (f i) ≡ false → every t (map f (countFrom 0 m)) ≡ false
   every-fails m i l h = fails-from 0 m i (omega arith) (omega arith) h

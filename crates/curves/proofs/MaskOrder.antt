@@ -11,7 +11,7 @@ use lib.Dec.{eqb}
 use lib.Count.{ones}
 use lib.Pow.{pow-pos}
 use borrow.Author.Tests.{lt-ltb, eq-eqb, ne-eqb}
-use Rattle.exact.proofs.AndTests.{and-left, and-right, and-true}
+use Rattle.exact.proofs.AndTests.{and-left, and-right, and-true, and-false}
 use Rattle.curves.specs.Grid.{absent, distinct, under, isOrder}
 use Rattle.curves.proofs.OrderTests.{order-under, order-distinct, under-head, under-tail}
 use Rattle.curves.proofs.MaskBits.{bit, bit-zero, bit-add-same, bit-add-other, ones-add, ones-zero, add-under}
@@ -28,10 +28,6 @@ weight [] = 0
 weight (a ∷ o) = 2 ^ a + weight o
 
 -- ---- from the test
-
-and-false : (b : Bool) {c : Bool} → c ≡ false → b && c ≡ false
-and-false true e = e
-and-false false e = refl
 
 fresh-from : (n m : ℕ) (o : List ℕ) → under n o ≡ true → distinct o ≡ true → ((b : ℕ) → absent b o ≡ false → bit b m ≡ 0) → Fresh n m o
 unfolding under distinct absent

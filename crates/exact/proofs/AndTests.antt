@@ -12,3 +12,7 @@ and-right false b h = absurd (false≢true h)
 
 pub and-true : {a b : Bool} → a ≡ true → b ≡ true → (a && b) ≡ true
 and-true {a} {b} p q = rw p q
+
+pub and-false : (a : Bool) {b : Bool} → b ≡ false → (a && b) ≡ false
+and-false true h = h
+and-false false h = refl

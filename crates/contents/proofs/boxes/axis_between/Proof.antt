@@ -1,26 +1,27 @@
--- `contents::boxes::axis_ok` meets its contract: the three tests in the order of the definition.
+-- `contents::boxes::axis_between` meets its contract: the three tests in the order of the definition.
 use mathlib.Core.Path.{_≡_}
 use mathlib.Core.Bool.{_&&_}
 use lib.Dec.{lit≤}
 use lib.Signed.{leZ, ltZ}
-use lib.IntN.{pos, negsuc}
 use mir.Val.{toZ, ofZ}
 use mir.Syntax.{w64}
 use borrow.Author.Needs.{needs}
-use Rattle.exact.proofs.Bits.{holds-call}
-use Rattle.paper.specs.Job.{axisOk}
-use Rattle.contents.proofs.AxisTest.{axis-test}
-use Rattle.contents.proofs.boxes.axis_ok.Statement.{statement}
-use Rattle.contents.proofs.boxes.axis_ok.Tie as tie
+use Rattle.exact.proofs.Bits.{back, holds-call}
+use Rattle.contents.specs.Between.{axisBetween}
+use Rattle.contents.proofs.BoxTests.{axis-test}
+use Rattle.contents.proofs.boxes.axis_between.Statement.{statement}
+use Rattle.contents.proofs.boxes.axis_between.Tie as tie
 
 -- the definition's three tests, of the numbers that were read
 tests : (c : tie.After-signed-word2)
-    → axisOk (c .before .before .before .args .b .now) (c .before .before .before .args .a)
-    ≡ (leZ (negsuc 255) (toZ w64 (ofZ w64 (c .before .signed-word .result)))
-    && (ltZ (toZ w64 (ofZ w64 (c .before .signed-word .result))) (toZ w64 (ofZ w64 (c .signed-word2 .result)))
-    && leZ (toZ w64 (ofZ w64 (c .signed-word2 .result))) (pos 256)))
+    → let start = c .before .before .before in
+    axisBetween (start .args .lowest) (start .args .highest) (start .args .b .now) (start .args .a)
+    ≡ (leZ (back (start .args .lowest)) (back (c .before .signed-word .result))
+    && (ltZ (back (c .before .signed-word .result)) (back (c .signed-word2 .result)) && leZ (back (c .signed-word2 .result)) (back (start .args .highest))))
 tests c =
-    axis-test _ _ (holds-call (c .before .signed-word .ensures) (lit≤ tt) .is) (holds-call (c .signed-word2 .ensures) (lit≤ tt) .is)
+    let start = c .before .before .before in
+    axis-test _ _ (start .fits .lowest) (start .fits .highest) (holds-call (c .before .signed-word .ensures) (lit≤ tt) .is)
+    (holds-call (c .signed-word2 .ensures) (lit≤ tt) .is)
 
 mul-signed-word : tie.Need-mul-signed-word
 mul-signed-word c = search needs
@@ -46,8 +47,8 @@ returns-2 c = rw (tests (c .before .before), c .before .if1 .taken, c .if2 .left
 returns-3 : tie.Need-returns-3
 returns-3 c = rw (tests (c .before), c .if1 .left)
 
-pub axis-ok-spec : {M : Type 1} → statement M
-axis-ok-spec =
+pub axis-between-spec : {M : Type 1} → statement M
+axis-between-spec =
     tie.close
     (tie.spec
     mul-signed-word
