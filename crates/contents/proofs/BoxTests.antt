@@ -1,6 +1,6 @@
 -- The test of an axis with the numbers that the code read in place of the definitions' own, and the paper's box as a box with two limits.
-use mathlib.Core.Path.{_≡_, refl}
-use mathlib.Core.Bool.{_&&_}
+use mathlib.Core.Path.{_≡_}
+use mathlib.Core.Bool.{Bool, _&&_}
 use mathlib.Core.List.{List}
 use Prim.Native.Nat.{ℕ, _+_, _*_}
 use lib.IntN.{ℤ, pos, negsuc}
@@ -25,6 +25,7 @@ pub limits-back : (n : ℕ) (b : List ℕ) {lowest highest : ℤ} → SFits w64 
     → boxBetween (back lowest) (back highest) n b ≡ boxBetween lowest highest n b
 limits-back n b f g = rw (bits-are f, bits-are g)
 
-pub paper-box : (n : ℕ) (b : List ℕ) → boxBetween (negsuc 255) (pos 256) n b ≡ boxOk n b
+-- the paper's limits
+pub paper-box : (n : ℕ) (b : List ℕ) {r : Bool} → r ≡ boxBetween (negsuc 255) (pos 256) n b → r ≡ boxOk n b
 unfolding boxBetween axisBetween boxOk axisOk neg coordinateLimit
-paper-box n b = refl
+paper-box n b e = e

@@ -1,5 +1,4 @@
 -- `contents::boxes::box_ok` meets its contract: the box with the paper's two limits.
-use mathlib.Core.Path.{_∙_}
 use borrow.Author.Needs.{needs}
 use Rattle.contents.proofs.BoxTests.{paper-box}
 use Rattle.contents.proofs.boxes.box_ok.Statement.{statement}
@@ -9,7 +8,7 @@ box-between-requires : tie.Need-box-between-requires
 box-between-requires c κs = search needs
 
 returns : tie.Need-returns
-returns c = c .box-between .ensures ∙ paper-box _ _
+returns c = let start = c .before .before in paper-box (start .args .n) (start .args .b .now) (c .box-between .ensures)
 
 pub box-ok-spec : {M : Type 1} → statement M
 box-ok-spec = tie.close (tie.spec box-between-requires returns)
