@@ -14,6 +14,7 @@ fn main() {
     println!("cargo:rerun-if-changed={}", archive.display());
     println!("cargo:rerun-if-env-changed=BEFORE");
     println!("cargo:rustc-check-cfg=cfg(before)");
+    println!("cargo:rustc-check-cfg=cfg(before_seams)");
     match env::var_os("BEFORE").filter(|name| !name.is_empty()) {
         None => link(&archive),
         Some(before) => link_both(&archive, &root.join(before)),
@@ -36,7 +37,11 @@ fn link_both(archive: &Path, before: &Path) {
     }
     let folder = PathBuf::from(env::var_os("OUT_DIR").expect("cargo sets it"));
     let names = folder.join("before.names");
-    let lines = defined(before).into_iter().map(|name| format!("{name} before_{name}\n"));
+    let defined = defined(before);
+    if defined.contains("gethwapiko_seams") {
+        println!("cargo:rustc-cfg=before_seams");
+    }
+    let lines = defined.into_iter().map(|name| format!("{name} before_{name}\n"));
     fs::write(&names, lines.collect::<String>()).expect("a folder to write to");
     let rename = format!("--redefine-syms={}", names.display());
     for (from, to, more) in [(archive, "now.a", None), (before, "before.a", Some(rename))] {

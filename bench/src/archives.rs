@@ -1,9 +1,11 @@
-//! What the bench calls by the C interface itself: Open of the proved library, and Open and Trace
-//! of an earlier state of it, if one is linked (`build.rs`).
+//! What the bench calls by the C interface itself: Open and the list of seams of the proved library,
+//! and Open, Trace and, if it has it, the list of seams of an earlier state of it, if one is linked
+//! (`build.rs`).
 
 #[cfg(before)]
 use reference::operations::Verdict;
 use tracer::open::Opened;
+use tracer::seams_plain::Listed;
 
 #[repr(C)]
 pub struct OpenAnswer {
@@ -22,13 +24,40 @@ impl OpenAnswer {
     }
 }
 
+#[repr(C)]
+struct SeamsAnswer {
+    refusal: u64,
+    full: u64,
+    count: u64,
+}
+
+impl SeamsAnswer {
+    /// The answer as the lister in Rust gives it.
+    fn listed(&self) -> Listed {
+        assert_eq!(self.refusal, 0, "no refusal");
+        Listed { full: self.full == 1, count: self.count as usize }
+    }
+}
+
 extern "C" {
     fn gethwapiko_open(job: *const u8, job_length: usize) -> OpenAnswer;
+    fn gethwapiko_seams(
+        job: *const u8,
+        job_length: usize,
+        buffer: *mut u8,
+        buffer_length: usize,
+    ) -> SeamsAnswer;
 }
 
 /// Open of the proved library.
 pub fn open(job: &[u8]) -> OpenAnswer {
     unsafe { gethwapiko_open(job.as_ptr(), job.len()) }
+}
+
+/// The list of seams of the proved library.
+pub fn seams(job: &[u8], buffer: &mut [u8]) -> Listed {
+    let (room, length) = (buffer.as_mut_ptr(), buffer.len());
+    unsafe { gethwapiko_seams(job.as_ptr(), job.len(), room, length) }.listed()
 }
 
 #[cfg(before)]
@@ -66,4 +95,21 @@ pub fn trace_before(job: &[u8], buffer: &mut [u8]) -> Result<(Verdict, usize), u
     }
     let verdicts = [Verdict::Loop, Verdict::Edge, Verdict::Limit, Verdict::Full];
     Ok((verdicts[answer.verdict as usize], answer.count as usize))
+}
+
+#[cfg(before_seams)]
+extern "C" {
+    fn before_gethwapiko_seams(
+        job: *const u8,
+        job_length: usize,
+        buffer: *mut u8,
+        buffer_length: usize,
+    ) -> SeamsAnswer;
+}
+
+/// The list of seams of the earlier state.
+#[cfg(before_seams)]
+pub fn seams_before(job: &[u8], buffer: &mut [u8]) -> Listed {
+    let (room, length) = (buffer.as_mut_ptr(), buffer.len());
+    unsafe { before_gethwapiko_seams(job.as_ptr(), job.len(), room, length) }.listed()
 }

@@ -2,23 +2,24 @@
 //! loop over axes and vertices is unrolled; nothing in the loop of a trace calls a function on
 //! slices or tests an index; one vertex is summed a step and the values of the others are carried.
 //! It takes a job that opens and tests nothing of it. Unproved; compared with the reference by
-//! the tests of `lib.rs`.
+//! the tests of `lib.rs`. `seams_careful.rs` walks by its parts; what is inlined is said where the
+//! compiler would else compile the trace in another way for that.
 
 use reference::operations::Verdict;
 
 /// Room for the vertices of a simplex in dimension 4.
 const VERTICES: usize = 5;
 /// The values at a vertex, of up to three polynomials; those that are not there are 0.
-type Values = [i64; 3];
+pub(crate) type Values = [i64; 3];
 
 struct Term {
     coefficient: i64,
     exponents: [u8; 4],
 }
 
-struct Job<const N: usize> {
-    low: [i64; N],
-    high: [i64; N],
+pub(crate) struct Job<const N: usize> {
+    pub(crate) low: [i64; N],
+    pub(crate) high: [i64; N],
     readable: i64,
     bias: i64,
     polynomials: [Vec<Term>; 3],
@@ -48,7 +49,7 @@ fn terms(body: &[u8]) -> Vec<Term> {
 }
 
 impl<const N: usize> Job<N> {
-    fn read(job: &[u8]) -> Job<N> {
+    pub(crate) fn read(job: &[u8]) -> Job<N> {
         let ends = body(job, 0);
         let mut polynomials = [Vec::new(), Vec::new(), Vec::new()];
         for k in 1..N {
@@ -64,7 +65,7 @@ impl<const N: usize> Job<N> {
         }
     }
 
-    fn holds(&self, v: &[i64; N]) -> bool {
+    pub(crate) fn holds(&self, v: &[i64; N]) -> bool {
         let mut inside = true;
         for a in 0..N {
             inside &= self.low[a] <= v[a] && v[a] <= self.high[a];
@@ -74,7 +75,7 @@ impl<const N: usize> Job<N> {
 
     /// The values at a vertex, or none if one of them is not readable. A sum no larger in size than
     /// the bias counts as 0.
-    fn values(&mut self, v: &[i64; N]) -> Option<Values> {
+    pub(crate) fn values(&mut self, v: &[i64; N]) -> Option<Values> {
         for a in 0..N {
             for e in 1..5 {
                 self.powers[a][e] = self.powers[a][e - 1] * v[a];
@@ -121,7 +122,8 @@ fn first_sign<const COUNT: usize>(numbers: [i64; COUNT]) -> i64 {
 
 /// The first non-zero coefficient, in rising powers of e, of the determinant whose columns are
 /// (1, e, .., e to the n-1) and those of n - 1 vertices: its sign. Ties are looked at last.
-fn sign<const N: usize>(w: [&Values; 3]) -> i64 {
+#[inline(always)]
+pub(crate) fn sign<const N: usize>(w: [&Values; 3]) -> i64 {
     let [a, b, c] = w;
     match N {
         2 => {
@@ -154,16 +156,16 @@ fn sign<const N: usize>(w: [&Values; 3]) -> i64 {
 }
 
 /// 1 for even numbers and -1 for odd ones.
-fn parity(k: usize) -> i64 {
+pub(crate) fn parity(k: usize) -> i64 {
     1 - 2 * (k as i64 & 1)
 }
 
 /// A facet: its lowest vertex, its masks in bytes 1 to n - 1 of a word, a side.
 #[derive(Clone, Copy)]
-struct Place<const N: usize> {
-    lowest: [i64; N],
-    masks: u64,
-    side: u8,
+pub(crate) struct Place<const N: usize> {
+    pub(crate) lowest: [i64; N],
+    pub(crate) masks: u64,
+    pub(crate) side: u8,
 }
 
 impl<const N: usize> Place<N> {
@@ -176,7 +178,7 @@ impl<const N: usize> Place<N> {
         Place { lowest, masks, side: bytes[3 * N - 1] }
     }
 
-    fn write(&self, out: &mut [u8]) {
+    pub(crate) fn write(&self, out: &mut [u8]) {
         for a in 0..N {
             out[2 * a] = self.lowest[a] as u8;
             out[2 * a + 1] = (self.lowest[a] >> 8) as u8;
@@ -198,7 +200,7 @@ impl<const N: usize> Place<N> {
 
 /// A simplex with the values at its vertices, the vertex behind the facet that it was entered by,
 /// and the sign of that facet's determinant.
-struct Simplex<const N: usize> {
+pub(crate) struct Simplex<const N: usize> {
     corner: [i64; N],
     /// Byte k is the mask of vertex k.
     masks: u64,
@@ -249,6 +251,16 @@ impl<const N: usize> Simplex<N> {
         Simplex { corner, masks, values: [[0; 3]; VERTICES], extra, sign: 0 }
     }
 
+    /// The simplex on the side of a place, with the values at the facet's vertices and the sign of
+    /// its determinant.
+    pub(crate) fn with_values(place: &Place<N>, values: &[&Values; N], sign: i64) -> Simplex<N> {
+        let mut simplex = Self::of_place(place);
+        for k in 0..N {
+            simplex.values[if k < simplex.extra { k } else { k + 1 }] = *values[k];
+        }
+        Simplex { sign, ..simplex }
+    }
+
     /// The sign of the vertices other than i and k, i under k.
     fn sign_without(&self, i: usize, k: usize) -> i64 {
         let first = if i > 0 {
@@ -289,7 +301,7 @@ impl<const N: usize> Simplex<N> {
 
     /// The vertex behind the other crossed facet: of two facets, the sign of the vertices that
     /// they share rules one out, and the crossed one is never ruled out.
-    fn exit(&self) -> usize {
+    pub(crate) fn exit(&self) -> usize {
         let mut kept = if self.extra == 0 { 1 } else { 0 };
         for k in 1..=N {
             if k > kept && k != self.extra {
@@ -302,8 +314,22 @@ impl<const N: usize> Simplex<N> {
         kept
     }
 
+    /// Takes the values at the new vertex; or edge, or limit.
+    #[inline(always)]
+    pub(crate) fn look(&mut self, job: &mut Job<N>) -> Result<(), Verdict> {
+        let new = self.vertex(self.extra);
+        if !job.holds(&new) {
+            return Err(Verdict::Edge);
+        }
+        match job.values(&new) {
+            None => return Err(Verdict::Limit),
+            Some(values) => self.values[self.extra] = values,
+        }
+        Ok(())
+    }
+
     /// Goes through the facet without vertex i; gives its place.
-    fn cross(&mut self, i: usize) -> Place<N> {
+    pub(crate) fn cross(&mut self, i: usize) -> Place<N> {
         self.sign *= parity(i + self.extra + 1);
         if i == 0 {
             let first = self.mask(1);
@@ -361,13 +387,8 @@ fn trace_in<const N: usize>(bytes: &[u8], buffer: &mut [u8]) -> Result<(Verdict,
     for out in buffer.chunks_exact_mut(3 * N) {
         place.write(out);
         count += 1;
-        let new = here.vertex(here.extra);
-        if !job.holds(&new) {
-            return Ok((Verdict::Edge, count));
-        }
-        match job.values(&new) {
-            None => return Ok((Verdict::Limit, count)),
-            Some(values) => here.values[here.extra] = values,
+        if let Err(verdict) = here.look(&mut job) {
+            return Ok((verdict, count));
         }
         place = here.cross(here.exit());
         if place.has_facet(&start) {

@@ -1,10 +1,17 @@
-//! Two tracers and two openers in Rust for comparing times, and the jobs that are timed.
+//! Two tracers, two listers of seams and two openers in Rust for comparing times, and the jobs that
+//! are timed.
 
 pub mod careful;
 pub mod jobs;
 pub mod long_curves;
 pub mod open;
 pub mod plain;
+pub mod seam_jobs;
+pub mod seams_careful;
+pub mod seams_plain;
+
+#[cfg(test)]
+mod seam_tests;
 
 #[cfg(test)]
 mod tests {

@@ -26,11 +26,11 @@ fn around_parabola(axis: usize, b: i64, d: i64) -> Vec<Term> {
     gathered(&[product(&twice, &twice), ends, product(&[one(-128)], &p)].concat())
 }
 
-/// Where a coordinate is 250 cos t, another is 250 cos 3t. This is cos 3t = 4 cos³ t - 3 cos t
-/// multiplied by 250³/4.
-fn three_times_the_angle(axis: usize, another: usize) -> Vec<Term> {
+/// Where a coordinate is r cos t, another is r cos 3t. This is cos 3t = 4 cos³ t - 3 cos t multiplied
+/// by r³/4, for a quarter of the square of r.
+pub(crate) fn three_times_the_angle(axis: usize, another: usize, quarter: i64) -> Vec<Term> {
     let power = |coefficient, axis, e| Term { coefficient, exponents: power_of(axis, e) };
-    gathered(&[power(1, axis, 3), power(-46_875, axis, 1), power(-15_625, another, 1)])
+    gathered(&[power(1, axis, 3), power(-3 * quarter, axis, 1), power(-quarter, another, 1)])
 }
 
 /// Name and bytes of each long curve.
@@ -40,7 +40,12 @@ pub fn long_curves() -> Vec<(&'static str, Vec<u8>)> {
     // one curve.
     let surfaces = vec![around_parabola(1, 224, 249), around_parabola(3, 232, 246)];
     // Round a circle once, z goes up and down three times and w nine times.
-    let angles = vec![sphere(2, 62_500), three_times_the_angle(1, 3), three_times_the_angle(3, 4)];
+    let quarter = 15_625;
+    let angles = vec![
+        sphere(2, 4 * quarter),
+        three_times_the_angle(1, 3, quarter),
+        three_times_the_angle(3, 4, quarter),
+    ];
     let all = [
         ("around_parabola_14", job(256, vec![around_parabola(1, 224, 249)])),
         ("around_parabolas_14_14", job_from(256, surfaces, place(&[-22, 2, -22], &[1, 7], 0))),

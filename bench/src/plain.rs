@@ -1,39 +1,40 @@
 //! A straightforward tracer in Rust, made for comparing times: it carries the values of the
 //! current simplex' vertices along and sums the polynomials at one new vertex a step. It takes
 //! a job that opens and tests nothing of it. Unproved; compared with the reference by the tests
-//! of `lib.rs`.
+//! of `lib.rs`. `seams_plain.rs` walks by its parts; what is inlined is said where the compiler would
+//! else compile the trace in another way for that.
 //!
 //! n is a variable. The arrays have room for A axes, P polynomials and V vertices: one more of
 //! each in dimension 4, so that the smaller dimensions carry nothing along that they do not have.
 
 use reference::operations::Verdict;
 
-struct Term<const A: usize> {
+pub(crate) struct Term<const A: usize> {
     coefficient: i64,
     exponents: [usize; A],
 }
 
-struct Job<const A: usize, const P: usize> {
-    n: usize,
+pub(crate) struct Job<const A: usize, const P: usize> {
+    pub(crate) n: usize,
     bias: i64,
-    ends: [(i64, i64); A],
+    pub(crate) ends: [(i64, i64); A],
     polynomials: [Vec<Term<A>>; P],
 }
 
 /// A simplex with the values at its vertices and the vertex behind the facet it was entered by.
 #[derive(Clone, Copy)]
-struct Simplex<const A: usize, const P: usize, const V: usize> {
+pub(crate) struct Simplex<const A: usize, const P: usize, const V: usize> {
     corner: [i64; A],
     order: [usize; A],
     values: [[i64; P]; V],
     extra: usize,
 }
 
-fn signed_16(bytes: &[u8]) -> i64 {
+pub(crate) fn signed_16(bytes: &[u8]) -> i64 {
     i16::from_le_bytes([bytes[0], bytes[1]]) as i64
 }
 
-fn read<const A: usize, const P: usize>(job: &[u8]) -> (Job<A, P>, &[u8]) {
+pub(crate) fn read<const A: usize, const P: usize>(job: &[u8]) -> (Job<A, P>, &[u8]) {
     let n = job[1] as usize;
     let body = |k: usize| {
         let entry = &job[4 + 4 * k..8 + 4 * k];
@@ -60,13 +61,13 @@ fn read<const A: usize, const P: usize>(job: &[u8]) -> (Job<A, P>, &[u8]) {
 impl<const A: usize, const P: usize> Job<A, P> {
     const READABLE: i64 = if A == 4 { 524_288 } else { 268_435_456 };
 
-    fn holds(&self, v: &[i64; A]) -> bool {
+    pub(crate) fn holds(&self, v: &[i64; A]) -> bool {
         (0..self.n).all(|k| self.ends[k].0 <= v[k] && v[k] <= self.ends[k].1)
     }
 
     /// The values at a vertex, or none if one of them is not readable. A sum no larger in size than
     /// the bias counts as 0.
-    fn values(&self, v: &[i64; A]) -> Option<[i64; P]> {
+    pub(crate) fn values(&self, v: &[i64; A]) -> Option<[i64; P]> {
         let mut powers = [[1i64; 5]; A];
         for axis in 0..self.n {
             for e in 1..5 {
@@ -104,6 +105,7 @@ fn first_sign<const COUNT: usize>(numbers: [i64; COUNT]) -> i64 {
 }
 
 /// Crossed, for n = 3: the coefficients of each vertex by cyclic exchange of columns.
+#[inline(always)]
 fn is_crossed_3<const P: usize>(w: [[i64; P]; 3]) -> bool {
     let power_0 = |a: [i64; P], b: [i64; P]| a[0] * b[1] - b[0] * a[1];
     let d = power_0(w[1], w[2]) + power_0(w[2], w[0]) + power_0(w[0], w[1]);
@@ -120,6 +122,7 @@ fn is_crossed_3<const P: usize>(w: [[i64; P]; 3]) -> bool {
 }
 
 /// Crossed, for n = 4: the coefficients of each vertex are the minors of the other columns.
+#[inline(always)]
 fn is_crossed_4<const P: usize>(w: [[i64; P]; 4]) -> bool {
     let (mut d, mut signs) = (0, [0; 4]);
     for i in 0..4 {
@@ -146,6 +149,16 @@ fn is_crossed_4<const P: usize>(w: [[i64; P]; 4]) -> bool {
     d != 0 && signs.iter().all(|&sign| sign == d.signum())
 }
 
+/// Crossed, by the values at the facet's vertices.
+#[inline(always)]
+pub(crate) fn is_crossed<const P: usize>(n: usize, at: impl Fn(usize) -> [i64; P]) -> bool {
+    match n {
+        2 => (at(0)[0] > 0) != (at(1)[0] > 0),
+        3 => is_crossed_3([at(0), at(1), at(2)]),
+        _ => is_crossed_4([at(0), at(1), at(2), at(3)]),
+    }
+}
+
 impl<const A: usize, const P: usize, const V: usize> Simplex<A, P, V> {
     fn vertex(&self, i: usize) -> [i64; A] {
         let mut v = self.corner;
@@ -155,17 +168,14 @@ impl<const A: usize, const P: usize, const V: usize> Simplex<A, P, V> {
         v
     }
 
+    #[inline(never)]
     fn is_crossed_without(&self, n: usize, i: usize) -> bool {
-        let at = |k: usize| self.values[if k < i { k } else { k + 1 }];
-        match n {
-            2 => (at(0)[0] > 0) != (at(1)[0] > 0),
-            3 => is_crossed_3([at(0), at(1), at(2)]),
-            _ => is_crossed_4([at(0), at(1), at(2), at(3)]),
-        }
+        is_crossed(n, |k| self.values[if k < i { k } else { k + 1 }])
     }
 
     /// The place of the facet without vertex i, its side leading out of this simplex.
-    fn place_without(&self, n: usize, i: usize) -> [u8; 12] {
+    #[inline(always)]
+    pub(crate) fn place_without(&self, n: usize, i: usize) -> [u8; 12] {
         let mut place = [0u8; 12];
         let lowest = if i == 0 { self.vertex(1) } else { self.corner };
         for axis in 0..n {
@@ -192,7 +202,8 @@ impl<const A: usize, const P: usize, const V: usize> Simplex<A, P, V> {
     }
 
     /// The simplex on the other side of the facet without vertex i.
-    fn across(&self, n: usize, i: usize) -> Self {
+    #[inline(always)]
+    pub(crate) fn across(&self, n: usize, i: usize) -> Self {
         let mut next = *self;
         if i == 0 {
             next.corner[self.order[0]] += 1;
@@ -211,6 +222,23 @@ impl<const A: usize, const P: usize, const V: usize> Simplex<A, P, V> {
         next
     }
 
+    /// The vertex behind the other crossed facet, after the values at the new vertex are taken; or
+    /// edge, or limit.
+    #[inline(always)]
+    pub(crate) fn exit(&mut self, job: &Job<A, P>) -> Result<usize, Verdict> {
+        let n = job.n;
+        let new = self.vertex(self.extra);
+        if !job.holds(&new) {
+            return Err(Verdict::Edge);
+        }
+        match job.values(&new) {
+            None => return Err(Verdict::Limit),
+            Some(values) => self.values[self.extra] = values,
+        }
+        let exit = (0..=n).find(|&i| i != self.extra && self.is_crossed_without(n, i));
+        Ok(exit.expect("another crossed facet"))
+    }
+
     /// The simplex on the side of a place; its values are not yet known.
     fn of_place(n: usize, place: &[u8]) -> Self {
         let mut corner = [0i64; A];
@@ -221,16 +249,16 @@ impl<const A: usize, const P: usize, const V: usize> Simplex<A, P, V> {
         let (mut order, mut count, mut before) = ([0; A], 0, 0u8);
         let mut extra = n;
         for &mask in &place[2 * n..3 * n - 1] {
-            let mut added: Vec<usize> = (0..n).filter(|k| (mask & !before) >> k & 1 == 1).collect();
-            if added.len() == 2 {
-                extra = count + 1;
-                if side == 1 {
-                    added.reverse();
-                }
-            }
-            for axis in added {
+            let first = count;
+            for axis in (0..n).filter(|axis| (mask & !before) >> axis & 1 == 1) {
                 order[count] = axis;
                 count += 1;
+            }
+            if count == first + 2 {
+                extra = first + 1;
+                if side == 1 {
+                    order.swap(first, first + 1);
+                }
             }
             before = mask;
         }
@@ -244,6 +272,15 @@ impl<const A: usize, const P: usize, const V: usize> Simplex<A, P, V> {
             }
         }
         Simplex { corner, order, values: [[0; P]; V], extra }
+    }
+
+    /// The simplex on the side of a place, with the values at the facet's vertices.
+    pub(crate) fn with_values(n: usize, place: &[u8], values: &[[i64; P]]) -> Self {
+        let mut simplex = Self::of_place(n, place);
+        for (k, &value) in values.iter().enumerate() {
+            simplex.values[if k < simplex.extra { k } else { k + 1 }] = value;
+        }
+        simplex
     }
 }
 
@@ -275,17 +312,10 @@ fn trace_in<const A: usize, const P: usize, const V: usize>(
         }
         buffer[size * count..size * (count + 1)].copy_from_slice(&place[..size]);
         count += 1;
-        let new = here.vertex(here.extra);
-        if !job.holds(&new) {
-            return Ok((Verdict::Edge, count));
-        }
-        match job.values(&new) {
-            None => return Ok((Verdict::Limit, count)),
-            Some(values) => here.values[here.extra] = values,
-        }
-        let exit = (0..=n)
-            .find(|&i| i != here.extra && here.is_crossed_without(n, i))
-            .expect("another crossed facet");
+        let exit = match here.exit(&job) {
+            Err(verdict) => return Ok((verdict, count)),
+            Ok(exit) => exit,
+        };
         place = here.place_without(n, exit);
         if place[..size - 1] == start[..size - 1] {
             return Ok((Verdict::Loop, count));

@@ -18,7 +18,7 @@ const ROUNDS: usize = 30;
 /// A round repeats a job until about this many places are written.
 const PLACES_A_ROUND: usize = 20_000;
 
-type Trace = fn(&[u8], &mut [u8]) -> Result<(Verdict, usize), u8>;
+pub type Trace = fn(&[u8], &mut [u8]) -> Result<(Verdict, usize), u8>;
 
 /// The proved one first: the others are what it is compared with.
 pub const TRACERS: &[(&str, Trace)] = &[

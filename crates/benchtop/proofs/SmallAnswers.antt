@@ -5,7 +5,7 @@ use mathlib.Core.Bool.{true, false, not}
 use mathlib.Core.List.{List}
 use Prim.Native.Nat.{ℕ}
 use Rattle.paper.specs.Job.{openRefusal}
-use Rattle.paper.specs.Operations.{refused, spaceOf, verdictAndCount, bufferAfter}
+use Rattle.paper.specs.Operations.{refused, spaceOf, verdictAndCount, placesOver, bufferAfter}
 use Rattle.paper.specs.Answers.{tracedAs}
 use Rattle.paper.specs.declared.Traced as Traced
 use Rattle.paper.proofs.Refusals.{refuse-here, refuse-later}
@@ -40,7 +40,7 @@ module _ (s : List ℕ) {k : ℕ} (e : k ≡ smallRefusal s) (h : k ≢ 0) where
   open-turned-away = ap refused e ∙ sym (opened-refused s turned-away)
 
   pub trace-turned-away : (b : List ℕ) → Answers s b b (Traced.the-variants.Refused k)
-  unfolding tracedAs verdictAndCount bufferAfter
+  unfolding tracedAs verdictAndCount bufferAfter placesOver
   trace-turned-away b =
       let is : smallTraced s (spaceOf s b) ≡ refused k = traced-refused s turned-away (spaceOf s b) ∙ ap refused (sym e) in
       record { answer = sym (ap verdictAndCount is); buffer = sym (ap (λ a. bufferAfter a b) is) }

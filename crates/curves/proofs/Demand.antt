@@ -1,25 +1,28 @@
 -- The third demand holds of the traces in the grid, for every dimension from 1 on, every field and every place that Step does
--- not refuse. Where the box has an end on each axis, each curve has a number of facets.
-use Prim.Native.Nat.{ℕ, _<_}
-use mathlib.Core.Path.{_≡_}
+-- not refuse. Where the box has an end on each axis, each curve has a number of facets, and a trace has space enough for it.
+use Prim.Native.Nat.{ℕ, _<_, _≤_}
+use native.Mathlib.Omega.{arith}
+use mathlib.Core.Path.{_≡_, sym}
 use mathlib.Core.Bool.{true}
-use mathlib.Core.List.{List, map}
+use mathlib.Core.List.{List, map, Memᴰ·cast}
 use lib.IntN.{ℤ}
 use lib.ListN.{length}
 use lib.Dec.{ltb}
 use Rattle.exact.proofs.AndTests.{and-left}
-use Rattle.curves.specs.Grid.{Vertex, Place, facetVertices, plus, facetOk, placeOk}
+use Rattle.curves.specs.Grid.{Vertex, Facet, Place, facetVertices, plus, facetOk, placeOk}
 use Rattle.curves.specs.Walk.{loop, stopped, full}
+use Rattle.curves.specs.Box.{within, boxFacets}
 use Rattle.curves.specs.Curve.{_∈_}
 use Rattle.curves.specs.Step.{Stop, Field, every, readableAll}
 use Rattle.curves.specs.Joined.{Traceable, Closes, HasFacets}
 use Rattle.curves.specs.GridDemand.{traceOf, GridDemand3}
 use Rattle.curves.proofs.Vertices.{facet-low-length}
-use Rattle.curves.proofs.Finite.{within, facetsIn, facetsIn-listed}
+use Rattle.curves.proofs.Finite.{boxFacets-listed}
+use Rattle.curves.proofs.WalkLists.{no-dup-length}
 use Rattle.curves.proofs.WalkTrace.{loop-not-full, loop-not-stopped, stopped-not-full}
-use Rattle.curves.proofs.WalkJoined.{not-full-traced}
+use Rattle.curves.proofs.WalkJoined.{not-full-traced, joined-ok}
 use Rattle.curves.proofs.WalkClosed.{loop-closes, closes-loop}
-use Rattle.curves.proofs.WalkCount.{facets-exist}
+use Rattle.curves.proofs.WalkCount.{facets-exist, enough-not-full}
 use Rattle.curves.proofs.WalkDemand.{demand3, demand3-closed}
 use Rattle.curves.proofs.GridStep.{accepted}
 use Rattle.curves.proofs.GridWalk.{grid-walk}
@@ -40,18 +43,33 @@ traceable-low n φ p o =
     and-left (φ .inBox (p .facet .low)) (every (φ .inBox) (map (plus (p .facet .low)) (p .facet .masks)))
     (and-left (every (φ .inBox) vs) (every (φ .readable) vs) (accepted n φ p o .readable))
 
--- each curve has a number of facets, where all vertices of n coordinates in the box lie between its ends
+-- the facet of such a place stands in the list of the box's facets, where all vertices of n coordinates in the box lie between its ends
+pub traceable-listed :
+    (n : ℕ) (φ : Field) (low high : List ℤ) → ((v : Vertex) → length v ≡ n → φ .inBox v ≡ true → within low high v ≡ true) →
+    (p : Place) → Traceable n φ p → p .facet ∈ boxFacets n low high
+unfolding placeOk
+traceable-listed n φ low high inside p o =
+    let form : facetOk n (p .facet) ≡ true = and-left (facetOk n (p .facet)) (ltb (p .side) 2) (accepted n φ p o .form) in
+    boxFacets-listed n low high (p .facet) form (inside (p .facet .low) (facet-low-length n (p .facet) form) (traceable-low n φ p o))
+
+-- so each curve has a number of facets
 pub curve-finite :
     (n : ℕ) (φ : Field) → 0 < n →
     (low high : List ℤ) → ((v : Vertex) → length v ≡ n → φ .inBox v ≡ true → within low high v ≡ true) →
     (s : Place) → Traceable n φ s → (k : ℕ) × HasFacets n φ (s .facet) k
-unfolding placeOk
-curve-finite n φ pos low high inside s o = facets-exist (grid-walk n φ pos) o (facetsIn n low high) listed
-  where
-    listed : (p : Place) → Traceable n φ p → p .facet ∈ facetsIn n low high
-    listed p q =
-        let form : facetOk n (p .facet) ≡ true = and-left (facetOk n (p .facet)) (ltb (p .side) 2) (accepted n φ p q .form) in
-        facetsIn-listed n low high (p .facet) form (inside (p .facet .low) (facet-low-length n (p .facet) form) (traceable-low n φ p q))
+curve-finite n φ pos low high inside s o = facets-exist (grid-walk n φ pos) o (boxFacets n low high) (traceable-listed n φ low high inside)
+
+-- a trace is not full if its space is the length of a list that has the facet of every place that Step does not refuse, or more
+pub room-enough :
+    (n : ℕ) (φ : Field) → 0 < n →
+    (u : List Facet) → ((p : Place) → Traceable n φ p → p .facet ∈ u) →
+    (s : Place) → Traceable n φ s → (space : ℕ) → length u ≤ space → ¬ (traceOf n φ s space .verdict ≡ full)
+room-enough n φ pos u listed s o space room =
+    let w = grid-walk n φ pos in
+    let c = facets-exist w o u listed in
+    let few : length (c .1 .facets) ≤ length u =
+    no-dup-length (c .1 .no-repeat) (λ f i. let t = joined-ok w o (c .1 .only f i) in Memᴰ·cast (sym (t .2)) (listed (t .0) (t .1))) in
+    enough-not-full w o (c .1) space (omega (arith, c .1 .count))
 
 -- ---- the verdict tells whether the curve closes
 

@@ -20,7 +20,7 @@ use Rattle.curves.specs.Walk.{Verdict, loop, stopped, afterTest, afterSt
 use Rattle.curves.specs.Step.{Stop, edge, limit, every, Field, column, columns, crossedFacet, readableAll, traceable, onward, stepThrough, step}
 use Rattle.curves.specs.Joined.{Traceable, Closes, HasFacets}
 use Rattle.curves.specs.GridDemand.{facetOf, traceOf, GridDemand3}
-use Rattle.curves.proofs.Finite.{within}
+use Rattle.curves.specs.Box.{within}
 use Rattle.curves.proofs.WalkTrace.{loop-not-full, stopped-not-full}
 use Rattle.curves.proofs.WalkJoined.{not-full-traced}
 use Rattle.curves.proofs.WalkCount.{loop-facets}

@@ -32,6 +32,7 @@ pub mod Orders
 pub mod Finite
 pub mod GridStep
 pub mod GridWalk
+pub mod JoinedLaws
 pub mod Carried
 pub mod ClosesSides
 pub mod GridLaws

@@ -1,5 +1,6 @@
 -- The grid of simplices and the curves through it, over the dimension n and over any values at the vertices.
 pub mod Grid
+pub mod Box
 pub mod Reflection
 pub mod Walk
 pub mod Curve

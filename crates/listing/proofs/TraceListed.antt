@@ -16,7 +16,7 @@ use Rattle.curves.specs.Joined.{Traceable}
 use Rattle.curves.proofs.WalkTrace.{trace-length}
 use Rattle.paper.specs.Job.{dimension}
 use Rattle.paper.specs.Values.{fieldOf}
-use Rattle.paper.specs.Operations.{Answer, refused, answered, stepIn, startOf, traceRefusal, onSameFacet, traced, spaceOf, verdictAndCount, encodePlaces, bufferAfter}
+use Rattle.paper.specs.Operations.{Answer, refused, answered, stepIn, startOf, traceRefusal, onSameFacet, traced, spaceOf, verdictAndCount, encodePlaces, placesOver, bufferAfter}
 use Rattle.paper.specs.Answers.{verdictAs, tracedAs}
 use Rattle.paper.specs.Listing.{listingSpace}
 use Rattle.paper.specs.Demand3.{readPlaces}
@@ -48,7 +48,7 @@ answerOr d (answered a) = a
 -- Trace's answer with the places read from the buffer is the trace
 read-back : (s b rest : List ℕ) (space : ℕ) (a : Answer (Trace Place Stop)) → traced s space ≡ a → (r : Traced.Traced)
     → tracedAs r ≡ verdictAndCount a → listedAs s (bufferAfter a b ++ rest) r ≡ a
-unfolding tracedAs verdictAndCount bufferAfter listedAs answerOr
+unfolding tracedAs verdictAndCount bufferAfter placesOver listedAs answerOr
 read-back s b rest space (refused k) q (Traced.the-variants.Refused l) e = e′
   where
     e′ : _≡_ {A = Answer (Trace Place Stop)} (refused l) (refused k)
@@ -69,7 +69,7 @@ read-back s b rest space (answered t) q (Traced.the-variants.Listed v c) e =
 -- what Trace leaves in the front of a buffer, with the rest as found, is what it leaves in the whole
 front-written : (s b : List ℕ) (k : ℕ)
     → bufferAfter (traced s (spaceOf s (take k b))) (take k b) ++ drop k b ≡ bufferAfter (traced s (spaceOf s (take k b))) b
-unfolding bufferAfter
+unfolding bufferAfter placesOver
 front-written s b k = go (traced s (spaceOf s (take k b))) refl
   where
     go : (a : Answer (Trace Place Stop)) → traced s (spaceOf s (take k b)) ≡ a → bufferAfter a (take k b) ++ drop k b ≡ bufferAfter a b

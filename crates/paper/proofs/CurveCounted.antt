@@ -14,7 +14,7 @@ use Rattle.curves.specs.Walk.{Verdict, loop, stopped, full}
 use Rattle.curves.specs.Step.{Stop, Field}
 use Rattle.curves.specs.Joined.{Traceable, Closes}
 use Rattle.curves.specs.GridDemand.{traceOf}
-use Rattle.curves.proofs.Finite.{within}
+use Rattle.curves.specs.Box.{within}
 use Rattle.curves.proofs.Demand.{grid-demand3, curve-finite, loop-closed, stopped-open}
 use Rattle.paper.specs.Job.{dimension, body, lowEnd, highEnd}
 use Rattle.paper.specs.Values.{insideFrom, fieldFrom, fieldOf}
@@ -40,16 +40,16 @@ inside-within b a (x ∷ v) h =
     (and-true (and-left (leZ x (highEnd b a)) rest later) (inside-within b (suc a) v (and-right (leZ x (highEnd b a)) rest later)))
 
 -- the vertices of n coordinates that lie in the box lie between its ends
-box-within : (s : List ℕ) (v : Vertex) → length v ≡ dimension s → fieldOf s .inBox v ≡ true
-    → within (lows (body s 0) 0 (dimension s)) (highs (body s 0) 0 (dimension s)) v ≡ true
-unfolding fieldFrom fieldOf
+pub box-within : (s : List ℕ) (v : Vertex) → length v ≡ dimension s → fieldOf s .inBox v ≡ true
+    → within (map (lowEnd (body s 0)) (countFrom 0 (dimension s))) (map (highEnd (body s 0)) (countFrom 0 (dimension s))) v ≡ true
+unfolding fieldFrom fieldOf lows highs
 box-within s v l h =
     subst (λ m. within (lows (body s 0) 0 m) (highs (body s 0) 0 m) v ≡ true) l (inside-within (body s 0) 0 v h)
 
 pub curve-counted : (s : List ℕ) → traceRefusal s ≡ 0 → (k : ℕ) × CurveHas s k
 curve-counted s h =
-    curve-finite (dimension s) (fieldOf s) (omega (arith, opens-range (trace-opens s h) .low)) (lows (body s 0) 0 (dimension s))
-    (highs (body s 0) 0 (dimension s)) (box-within s) (startOf s) (start-traceable s h)
+    curve-finite (dimension s) (fieldOf s) (omega (arith, opens-range (trace-opens s h) .low)) (map (lowEnd (body s 0)) (countFrom 0 (dimension s)))
+    (map (highEnd (body s 0)) (countFrom 0 (dimension s))) (box-within s) (startOf s) (start-traceable s h)
 
 -- the verdict of a trace with space for the whole curve decides
 closes-by-verdict : (n : ℕ) (φ : Field) (pos : 0 < n) (p : Place) → Traceable n φ p → (k : ℕ) → ¬ (traceOf n φ p k .verdict ≡ full)

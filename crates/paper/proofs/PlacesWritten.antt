@@ -22,7 +22,7 @@ use Rattle.curves.proofs.GridStep.{accepted}
 use Rattle.curves.proofs.GridWalk.{grid-walk}
 use Rattle.paper.specs.Job.{dimension, decodePlace, encodePlace}
 use Rattle.paper.specs.Values.{fieldOf}
-use Rattle.paper.specs.Operations.{Answer, refused, answered, stepIn, startOf, traceRefusal, onSameFacet, traced, spaceOf, encodePlaces, bufferAfter}
+use Rattle.paper.specs.Operations.{Answer, refused, answered, stepIn, startOf, traceRefusal, onSameFacet, traced, spaceOf, encodePlaces, placesOver, bufferAfter}
 use Rattle.paper.proofs.ShortPlaces.{limited}
 use Rattle.paper.specs.Demand3.{readPlaces}
 use Rattle.paper.proofs.Opens.{Opens, opens-range}
@@ -97,7 +97,7 @@ module _ {s : List ℕ} (o : Opens s) (p : Place) (t : Traceable (dimension s) (
   -- read from the buffer at exit they are the places listed
   pub listed-read : (buffer : List ℕ) → readPlaces (dimension s) (length (trace (stepIn s) onSameFacet p space .places)) (bufferAfter (answered (trace (stepIn s) onSameFacet p space)) buffer)
       ≡ trace (stepIn s) onSameFacet p space .places
-  unfolding bufferAfter
+  unfolding bufferAfter placesOver
   listed-read buffer = places-read (dimension s) (trace (stepIn s) onSameFacet p space .places) _ listed-writable
 
 -- ---- the buffer
@@ -122,7 +122,7 @@ traced-fits s buffer t e =
 
 -- Trace leaves the buffer's length
 pub buffer-length : (s buffer : List ℕ) → length (bufferAfter (traced s (spaceOf s buffer)) buffer) ≡ length buffer
-unfolding bufferAfter
+unfolding bufferAfter placesOver
 buffer-length s buffer = go (traced s (spaceOf s buffer)) refl
   where
     go : (r : Answer (Trace Place Stop)) → traced s (spaceOf s buffer) ≡ r → length (bufferAfter r buffer) ≡ length buffer
@@ -133,12 +133,12 @@ buffer-length s buffer = go (traced s (spaceOf s buffer)) refl
 
 -- a job that is refused leaves every byte of the buffer as it was
 pub refusal-keeps : (s buffer : List ℕ) → (traceRefusal s ≡ 0 → ⊥) → bufferAfter (traced s (spaceOf s buffer)) buffer ≡ buffer
-unfolding traced bufferAfter
+unfolding traced bufferAfter placesOver
 refusal-keeps s buffer h =
     ap (λ a. bufferAfter a buffer) (unless-refused (traceRefusal s) (trace (stepIn s) onSameFacet (startOf s) (spaceOf s buffer)) h)
 
 -- bytes past the last place written keep their values
 pub rest-keeps : (t : Trace Place Stop) (buffer : List ℕ)
     → drop (length (encodePlaces (t .places))) (bufferAfter (answered t) buffer) ≡ drop (length (encodePlaces (t .places))) buffer
-unfolding bufferAfter
+unfolding bufferAfter placesOver
 rest-keeps t buffer = drop-at (encodePlaces (t .places)) (drop (length (encodePlaces (t .places))) buffer) _ refl

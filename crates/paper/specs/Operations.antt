@@ -131,8 +131,11 @@ unfoldable pub encodePlaces : List Place → List ℕ
 encodePlaces [] = []
 encodePlaces (p ∷ ps) = encodePlace p ++ encodePlaces ps
 
--- the buffer at exit: the places from its front on, and behind them what it held; a refusal touches nothing
+-- the places written over a buffer from its front on; behind them stands what it held
+unfoldable pub placesOver : List Place → List ℕ → List ℕ
+placesOver ps buffer = encodePlaces ps ++ drop (length (encodePlaces ps)) buffer
+
+-- the buffer at exit; a refusal touches nothing
 unfoldable pub bufferAfter : Answer (Trace Place Stop) → List ℕ → List ℕ
 bufferAfter (refused k) buffer = buffer
-bufferAfter (answered t) buffer =
-    encodePlaces (t .places) ++ drop (length (encodePlaces (t .places))) buffer
+bufferAfter (answered t) buffer = placesOver (t .places) buffer

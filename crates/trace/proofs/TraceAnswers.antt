@@ -10,7 +10,7 @@ use Rattle.curves.specs.Walk.{trace}
 use Rattle.curves.specs.Step.{columns}
 use Rattle.paper.specs.Job.{dimension, body, openRefusal}
 use Rattle.paper.specs.Values.{fieldOf}
-use Rattle.paper.specs.Operations.{facetOf, refused, answered, unless, stepIn, startOf, traceRefusal, onSameFacet, traced, spaceOf, verdictAndCount, bufferAfter}
+use Rattle.paper.specs.Operations.{facetOf, refused, answered, unless, stepIn, startOf, traceRefusal, onSameFacet, traced, spaceOf, verdictAndCount, placesOver, bufferAfter}
 use Rattle.paper.specs.Answers.{tracedAs}
 use Rattle.paper.specs.declared.Traced as Traced
 use Rattle.paper.proofs.Refusals.{unless-refused, first-refuses}
@@ -33,7 +33,7 @@ pub record Answers (s b after : List ℕ) (r : Traced.Traced) : Type 0 where
   pub buffer : after ≡ bufferAfter (traced s (spaceOf s b)) b
 
 trace-refused : {s : List ℕ} (b : List ℕ) {k : ℕ} → k ≡ traceRefusal s → (k ≡ 0 → ⊥) → Answers s b b (Traced.the-variants.Refused k)
-unfolding traced tracedAs verdictAndCount bufferAfter
+unfolding traced tracedAs verdictAndCount bufferAfter placesOver
 trace-refused {s} b {k} e h =
     let t = trace (stepIn s) onSameFacet (startOf s) (spaceOf s b) in
     let is : unless (traceRefusal s) t ≡ refused k = ap (λ l. unless l t) (sym e) ∙ unless-refused k t h in

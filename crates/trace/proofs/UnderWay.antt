@@ -5,18 +5,17 @@ use native.Mathlib.Nat.{mul-zero, mul-suc, mul-comm, mul-le-mul-left, mul-div-le
 use native.Mathlib.Numerals.{add-one}
 use native.Mathlib.Omega.{arith}
 use mathlib.Core.Path.{_≡_, refl, sym, ap, subst, _∙_}
-use mathlib.Core.Bool.{true, false}
 use mathlib.Core.List.{List, [], _∷_, _++_, append-nil, append-assoc}
 use lib.IntN.{ℤ}
 use lib.ListN.{length, drop, length-append}
 use lib.Seq.{sets, length-sets, sets-eq}
 use Rattle.curves.specs.Grid.{Place}
-use Rattle.curves.specs.Walk.{Trace, afterTest, afterStep, traceFrom, trace, stop, full}
-use Rattle.curves.specs.Step.{Stop, edge, limit}
+use Rattle.curves.specs.Walk.{Trace, afterStep, traceFrom, trace, full}
+use Rattle.curves.specs.Step.{Stop}
 use Rattle.curves.proofs.GridStep.{accepted}
 use Rattle.paper.specs.Job.{encodePlace}
 use Rattle.paper.specs.Values.{fieldOf}
-use Rattle.paper.specs.Operations.{answered, stepIn, onSameFacet, encodePlaces, verdictAndCount, bufferAfter}
+use Rattle.paper.specs.Operations.{answered, stepIn, onSameFacet, encodePlaces, verdictAndCount, placesOver, bufferAfter}
 use Rattle.paper.specs.Answers.{verdictAs, tracedAs}
 use Rattle.paper.specs.declared.Verdict as Verdict
 use Rattle.paper.specs.declared.Traced as Traced
@@ -25,37 +24,10 @@ use Rattle.places.specs.Held.{placeAs}
 use Rattle.places.specs.declared.HeldPlace.{HeldPlace}
 use Rattle.places.proofs.PlaceStored.{sets-append, encodePlaces-snoc}
 use Rattle.step.specs.Held.{Held}
-use Rattle.step.specs.Ahead.{Leads}
 use Rattle.carried.specs.declared.Entered.{Entered}
-use Rattle.carried.specs.Carries.{Carries}
-use Rattle.trace.specs.declared.walks.Visited as Code
-use Rattle.trace.specs.Visited.{GoesOn, VisitedIs, Visits, traceOver, Walks}
-
--- ---- one turn
-
-module _ (s : List ℕ) (n : ℕ) (start x : Place) where
-  pub ends-at-edge : (cells : List ℤ) → stepIn s x ≡ stop edge → VisitedIs s n start x (Code.the-variants.Over Verdict.the-variants.Edge) cells
-  unfolding afterStep verdictAs
-  ends-at-edge cells e rest = ap (afterStep onSameFacet rest start x) e
-
-  pub ends-at-limit : (cells : List ℤ) → stepIn s x ≡ stop limit → VisitedIs s n start x (Code.the-variants.Over Verdict.the-variants.Limit) cells
-  unfolding afterStep verdictAs
-  ends-at-limit cells e rest = ap (afterStep onSameFacet rest start x) e
-
-  pub ends-in-loop : {q : HeldPlace} (cells : List ℤ) → Leads s n x q → onSameFacet (placeAs n q) start ≡ true
-      → VisitedIs s n start x (Code.the-variants.Over Verdict.the-variants.Loop) cells
-  unfolding afterStep afterTest verdictAs
-  ends-in-loop {q} cells l e rest = ap (afterStep onSameFacet rest start x) (l .is) ∙ ap (afterTest rest x (placeAs n q)) e
-
-  pub goes-on : {q : Entered} {cells : List ℤ} → Leads s n x (q .place) × Carries s n q cells → onSameFacet (placeAs n (q .place)) start ≡ false
-      → GoesOn s n start x q cells
-  unfolding afterStep afterTest
-  goes-on {q} l e = record {
-    is = λ rest. ap (afterStep onSameFacet rest start x) (l .0 .is) ∙ ap (afterTest rest x (placeAs n (q .place))) e;
-    carries = l .1;
-  }
-
--- ---- the walk
+use Rattle.ahead.specs.declared.Visited as Code
+use Rattle.ahead.specs.Visited.{GoesOn, VisitedIs}
+use Rattle.trace.specs.Visited.{Visits, traceOver, Walks}
 
 -- a trace behind places already written
 abbrev joined : List Place → Trace Place Stop → Trace Place Stop
@@ -90,7 +62,7 @@ listed : {s : List ℕ} {n : ℕ} {start : HeldPlace} {before buffer : List ℕ}
     → traceOver s n start before ≡ record { verdict = verdictAs v; places = ps } → length ps ≡ count
     → buffer ≡ sets before 0 (encodePlaces ps) → length (encodePlaces ps) ≤ length before
     → Walks s n start before buffer (Traced.the-variants.Listed v count)
-unfolding tracedAs verdictAndCount bufferAfter
+unfolding tracedAs verdictAndCount bufferAfter placesOver
 listed {before} ps v e l b fits = record {
   answer = ap (λ k. answered (verdictAs v, k)) (sym l) ∙ (λ i. answered (sym e i .verdict, length (sym e i .places)));
   buffer =

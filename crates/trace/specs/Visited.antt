@@ -1,5 +1,4 @@
--- One turn of a trace and the whole of it, as the code answers them: the definition of Trace says what is left to do after a
--- place is written (`afterStep`), and the buffer is what it was with the places' bytes stored in it.
+-- One turn of a trace and the whole of it, as the code answers them: the buffer is what it was with the places' bytes stored in it.
 use Prim.Native.Nat.{ℕ, _*_, _/_}
 use mathlib.Core.Path.{_≡_}
 use mathlib.Core.List.{List}
@@ -7,28 +6,16 @@ use lib.IntN.{ℤ}
 use lib.ListN.{length}
 use lib.Seq.{sets}
 use Rattle.curves.specs.Grid.{Place}
-use Rattle.curves.specs.Walk.{Trace, ended, written, afterStep, trace}
+use Rattle.curves.specs.Walk.{Trace, trace}
 use Rattle.curves.specs.Step.{Stop}
 use Rattle.paper.specs.Job.{encodePlace}
 use Rattle.paper.specs.Operations.{answered, stepIn, onSameFacet, verdictAndCount, bufferAfter}
-use Rattle.paper.specs.Answers.{verdictAs, tracedAs}
+use Rattle.paper.specs.Answers.{tracedAs}
 use Rattle.paper.specs.declared.Traced.{Traced}
 use Rattle.places.specs.Held.{placeAs}
 use Rattle.places.specs.declared.HeldPlace.{HeldPlace}
-use Rattle.carried.specs.declared.Entered.{Entered}
-use Rattle.carried.specs.Carries.{Carries}
-use Rattle.trace.specs.declared.walks.Visited as Code
-
--- the trace goes on from the place that is held, and the cells hold what is carried there
-pub record GoesOn (s : List ℕ) (n : ℕ) (start x : Place) (q : Entered) (cells : List ℤ) : Type 0 where
-  pub is : (rest : Place → Trace Place Stop) → afterStep onSameFacet rest start x (stepIn s x) ≡ written x (rest (placeAs n (q .place)))
-  pub carries : Carries s n q cells
-
--- the trace ends behind x with the verdict, or goes on
-abbrev pub VisitedIs : List ℕ → ℕ → Place → Place → Code.Visited → List ℤ → Type 0
-VisitedIs s n start x (Code.the-variants.Over v) cells =
-    (rest : Place → Trace Place Stop) → afterStep onSameFacet rest start x (stepIn s x) ≡ ended x (verdictAs v)
-VisitedIs s n start x (Code.the-variants.Next q) cells = GoesOn s n start x q cells
+use Rattle.ahead.specs.Visited.{VisitedIs}
+use Rattle.ahead.specs.declared.Visited as Code
 
 -- the place's bytes are stored, and the answer says how the trace goes on
 pub record Visits (s : List ℕ) (n : ℕ) (start here : HeldPlace) (at : ℕ) (before after : List ℕ) (r : Code.Visited) (cells : List ℤ) : Type 0 where

@@ -5,17 +5,11 @@ ghost use lib.ListN.{length};
 ghost use Rattle.step.specs.Held.{Held};
 ghost use Rattle.carried.specs.Carries.{Carries};
 ghost use Rattle.trace.specs.Visited.{Visits, Walks};
-use carried::Ahead;
+use ahead::Visited;
 use carried::Entered;
 use paper::Traced;
 use paper::Verdict;
 use places::HeldPlace;
-
-// After a place is written: the verdict, or the place to be written next.
-pub enum Visited {
-    Over(Verdict),
-    Next(Entered),
-}
 
 // Writes a place, and looks ahead: edge or limit, then loop, else the next place.
 pub fn visit(
@@ -31,17 +25,7 @@ pub fn visit(
     ensures { λ r. ⌜ Visits (now (job .entry)) n start (here .place) at (now (buffer .entry)) (now (buffer .exit)) r (now (cells .exit)) ⌝ }
 {
     places::write_place(buffer, at, n, here.place);
-    let ahead = carried::onward(job, n, here, cells);
-    match ahead {
-        Ahead::Edge => Visited::Over(Verdict::Edge),
-        Ahead::Limit => Visited::Over(Verdict::Limit),
-        Ahead::Next(next) => {
-            if places::same_facet(n, next.place, start) {
-                return Visited::Over(Verdict::Loop);
-            }
-            Visited::Next(next)
-        }
-    }
+    ahead::look_ahead(job, n, start, here, cells)
 }
 
 // The trace from a place with what is carried there, with the space that the buffer has.

@@ -10,6 +10,7 @@ use reference::ground::Ground;
 use reference::limits::MOST;
 use reference::operations::{Move, Step, Verdict};
 use reference::product::Product;
+use reference::seams::Ending;
 
 #[repr(C)]
 #[derive(Clone, Copy, PartialEq, Debug)]
@@ -80,6 +81,14 @@ struct StepAnswer {
 struct TraceAnswer {
     refusal: u64,
     verdict: u64,
+    count: u64,
+}
+
+#[repr(C)]
+#[derive(Clone, Copy, PartialEq, Debug)]
+struct SeamsAnswer {
+    refusal: u64,
+    full: u64,
     count: u64,
 }
 
@@ -158,6 +167,12 @@ extern "C" {
         buffer: *mut u8,
         buffer_len: usize,
     ) -> TraceAnswer;
+    fn gethwapiko_seams(
+        job: *const u8,
+        job_len: usize,
+        buffer: *mut u8,
+        buffer_len: usize,
+    ) -> SeamsAnswer;
 }
 
 /// The refusal, if there is one, with the rest of the answer checked to be 0.
@@ -345,5 +360,14 @@ impl Product for Library {
     fn small_trace(&self, job: &[u8], buffer: &mut [u8]) -> Result<(Verdict, usize), u8> {
         let (at, length) = (buffer.as_mut_ptr(), buffer.len());
         unsafe { gethwapiko_small_trace(job.as_ptr(), job.len(), at, length) }.read()
+    }
+
+    #[inline]
+    fn seams(&self, job: &[u8], buffer: &mut [u8]) -> Result<(Ending, usize), u8> {
+        let (at, length) = (buffer.as_mut_ptr(), buffer.len());
+        let a = unsafe { gethwapiko_seams(job.as_ptr(), job.len(), at, length) };
+        refused(a.refusal, (a.full, a.count) == (0, 0))?;
+        let ending = if mark(a.full) { Ending::Full } else { Ending::Complete };
+        Ok((ending, a.count as usize))
     }
 }

@@ -1,5 +1,5 @@
 //! Cases A to J, their like in dimension 4 and at a bias, running sums, halves of a step, grounds,
-//! the small cutter, and the wrong turns on the proved library.
+//! the small cutter, the list of seams, and the wrong turns on the proved library.
 
 use library::ffi::Library;
 use reference::marked;
@@ -37,6 +37,11 @@ fn grounds() {
 #[test]
 fn small_cutter() {
     marked::small_cutter(&Library);
+}
+
+#[test]
+fn seams() {
+    marked::seams(&Library);
 }
 
 #[test]

@@ -1,5 +1,5 @@
 //! "Marked cases" A to J, their like in dimension 4 and at a bias, running sums, halves of a step,
-//! grounds, the small cutter, and the wrong turns, as checks of any product.
+//! grounds, the small cutter, the list of seams, and the wrong turns, as checks of any product.
 
 use crate::build::{case_a, case_c, exponents, gathered, place, power_of, term, Parts};
 use crate::crossed::Term;
@@ -8,6 +8,7 @@ use crate::ground::{holds, names_the_first, says_crossed, Coefficients, Ground};
 use crate::limits::{Limits, DIMENSIONS};
 use crate::operations::{with_start, Move, Step, Verdict};
 use crate::product::Product;
+use crate::seams::Ending;
 
 /// The bytes of case A's job, as the paper lays them out.
 pub const CASE_A: [u8; 54] = [
@@ -993,6 +994,173 @@ fn small_refusals(p: &dyn Product, n: usize) {
         parts.start.facet.lowest[0] = x;
         assert_eq!(answers(&parts), (None, Some(9)), "{x}");
     }
+}
+
+/// Request 2.4: the list of seams.
+pub fn seams(p: &dyn Product) {
+    // A: the least of its six facets. Where the start lies does not matter, nor whether Trace takes
+    // it: the facets that follow are not crossed, outside the box, far outside.
+    let least = [place(&[-1, -1], &[3], 0)];
+    let starts = [([0, 0], 1, 1), ([-1, -1], 1, 0), ([5, -9], 2, 0), ([-32_768, 32_767], 3, 1)];
+    for (lowest, mask, side) in starts {
+        let start = place(&lowest, &[mask], side);
+        assert_seams(p, &Parts { start, ..case_a() }, &least);
+    }
+    for n in DIMENSIONS {
+        // C: the trace from its start has the whole seam.
+        assert_seams(p, &case_c(n), &[case_c(n).start]);
+        // No seam: a polynomial without a zero.
+        let mut without = case_c(n);
+        without.polynomials[n - 2] = vec![term(1, &[])];
+        assert_seams(p, &without, &[]);
+        two_seams(p, n);
+        facet_by_itself(p, n);
+        seams_joined_by_the_bias(p, n);
+        refusals_of_seams(p, n);
+    }
+    // No facet of the box is behind this one.
+    assert_seams(p, &readable_at_the_end(), &[place(&[21, 30], &[2], 0)]);
+}
+
+/// Lists the seams into a buffer for `space` places and two bytes more.
+fn listed(p: &dyn Product, job: &[u8], n: usize, space: usize) -> (Ending, Vec<Place>) {
+    let size = 3 * n;
+    let mut buffer = vec![PATTERN; size * space + 2];
+    let (ending, count) = p.seams(job, &mut buffer).expect("no refusal");
+    assert!(count <= space);
+    assert!(buffer[size * count..].iter().all(|&b| b == PATTERN));
+    let read = |bytes| Place::read(n, bytes).expect("a place");
+    (ending, buffer.chunks_exact(size).take(count).map(read).collect())
+}
+
+/// The job has these seams: complete with space for them and for more, full with any less.
+fn assert_seams(p: &dyn Product, parts: &Parts, places: &[Place]) {
+    let job = parts.bytes();
+    for space in 0..places.len() + 2 {
+        let count = places.len().min(space);
+        let ending = if count < places.len() { Ending::Full } else { Ending::Complete };
+        let wanted = (ending, places[..count].to_vec());
+        assert_eq!(listed(p, &job, parts.n, space), wanted, "space for {space} in {job:?}");
+    }
+}
+
+/// x (x - 2) in place of x in case C is 3 at -1 and at 3, 0 at 0 and at 2 and below between: it is
+/// just above 0 before 0 and behind 2.
+fn before_and_behind(n: usize) -> Parts {
+    let mut parts = case_c(n);
+    parts.ends[0] = (-1, 3);
+    parts.polynomials[0] = vec![term(-2, &[1]), term(1, &[2])];
+    parts
+}
+
+/// It has a seam in each of the two. By the bytes of a place -1 comes behind 2.
+fn two_seams(p: &dyn Product, n: usize) {
+    let at = |x: i64| place(&vertex(&[x])[..n], &[1, 3, 7][..n - 1], 0);
+    assert_seams(p, &before_and_behind(n), &[at(-1), at(2)]);
+}
+
+/// 1,048,576 x^3 times the last axis and 2 x - 41 in place of x in case C, x being 20 or 21: readable
+/// where the last axis is 0, and there -1 and 1.
+fn readable_at_0(n: usize) -> Parts {
+    let mut parts = case_c(n);
+    let mut large = power_of(n, 1);
+    large[0] = 3;
+    parts.polynomials[0] = gathered(&[term(1_048_576, &large), term(2, &[1]), term(-41, &[])]);
+    parts.ends[0] = (20, 21);
+    parts
+}
+
+/// Its facet there has no readable simplex on either side.
+fn facet_by_itself(p: &dyn Product, n: usize) {
+    let mut parts = readable_at_0(n);
+    let alone = place(&vertex(&[20])[..n], &[1, 3, 7][..n - 1], 0);
+    assert_seams(p, &parts, &[alone]);
+    let from_alone = |start| traced(p, &with_start(&parts.bytes(), &start), n, 9);
+    assert_eq!(from_alone(alone), (Verdict::Limit, vec![alone]));
+    assert_eq!(from_alone(alone.turned()), (Verdict::Edge, vec![alone.turned()]));
+    // In a box that goes on below there is a limit on both sides.
+    parts.ends[n - 1] = (-1, 1);
+    assert_seams(p, &parts, &[alone]);
+    let below = with_start(&parts.bytes(), &alone.turned());
+    assert_eq!(traced(p, &below, n, 9), (Verdict::Limit, vec![alone.turned()]));
+}
+
+/// 32,768 y^3 (x - 21) + 2 y - 61 in the box 20 to 21, 30 to 31: readable where x is 21, and there -1
+/// and 1.
+fn readable_at_the_end() -> Parts {
+    let terms = [term(-688_128, &[0, 3]), term(32_768, &[1, 3]), term(2, &[0, 1]), term(-61, &[])];
+    let ends = vec![(20, 21), (30, 31)];
+    Parts { ends, polynomials: vec![gathered(&terms)], ..case_a() }
+}
+
+/// What the program that lists the seams prints for some of these.
+pub fn seams_listings() -> Vec<(Parts, &'static str)> {
+    vec![
+        (case_a(), "2 complete 1\n-1 -1 3 0 loop 6\n"),
+        (case_c(3), "3 complete 1\n0 0 0 1 3 0 edge 4\n"),
+        (case_c(4), "4 complete 1\n0 0 0 0 1 3 7 0 edge 5\n"),
+        (before_and_behind(2), "2 complete 2\n-1 0 1 0 edge 3\n2 0 1 0 edge 3\n"),
+        (before_and_behind(3), "3 complete 2\n-1 0 0 1 3 0 edge 4\n2 0 0 1 3 0 edge 4\n"),
+        (readable_at_0(2), "2 complete 1\n20 0 1 0 limit 1\n"),
+        (readable_at_0(4), "4 complete 1\n20 0 0 0 1 3 7 0 limit 1\n"),
+        (readable_at_the_end(), "2 complete 1\n21 30 2 0 edge 1\n"),
+        (Parts { bias: 2, ..case_a() }, "2 complete 0\n"),
+    ]
+}
+
+/// The two loops of `pieces_joined_by_the_bias`, around the vertices -1 and 1 of axis 1; the least
+/// facet goes up to the vertex from 1 below on axes 1 and 2.
+fn seams_joined_by_the_bias(p: &dyn Product, n: usize) {
+    let lobes = [(1, [0, 0]), (4, [0, 2]), (-5, [2, 0]), (2, [4, 0])];
+    let mut polynomials = vec![lobes.map(|(c, exponents)| term(c, &exponents)).to_vec()];
+    polynomials.extend((3..=n).map(|axis| vec![term(2, &power_of(axis, 1))]));
+    let mut ends = vec![(-1, 1); n];
+    ends[0] = (-2, 2);
+    let up_to = |x: i64| place(&vertex(&[x - 1, -1])[..n], &[3, 7, 15][..n - 1], 0);
+    let parts = Parts { ends, polynomials, ..case_c(n) };
+    assert_seams(p, &parts, &[up_to(-1), up_to(1)]);
+    assert_seams(p, &Parts { bias: 1, ..parts }, &[up_to(-1)]);
+}
+
+/// Those of Open, which touch no byte; and none for the start.
+fn refusals_of_seams(p: &dyn Product, n: usize) {
+    let refused = |job: &[u8]| {
+        let mut buffer = vec![PATTERN; 3 * n * 3];
+        let answer = p.seams(job, &mut buffer);
+        assert!(answer.is_ok() || buffer.iter().all(|&b| b == PATTERN));
+        answer.err()
+    };
+    let c = case_c(n);
+    let job = c.bytes();
+    let changed = |at: usize, byte: u8| {
+        let mut other = job.clone();
+        other[at] = byte;
+        other
+    };
+    assert_eq!(refused(&job[..3]), Some(1));
+    assert_eq!(refused(&changed(0, 0)), Some(2));
+    assert_eq!(refused(&changed(1, 5)), Some(3));
+    assert_eq!(refused(&changed(2, 0)), Some(4));
+    assert_eq!(refused(&job[..job.len() - 1]), Some(5));
+    let flat = Parts { ends: vec![(1, 1); n], ..c.clone() };
+    assert_eq!(refused(&flat.bytes()), Some(6));
+    let mut zero = c.clone();
+    zero.polynomials[n - 2][0].coefficient = 0;
+    assert_eq!(refused(&zero.bytes()), Some(7));
+    assert_eq!(refused(&changed(job.len() - 1, 2)), Some(8));
+    // Trace refuses these starts with 9, 11 and 10.
+    for (lowest, masks) in [(40, [1, 3, 7]), (0, [2, 3, 7])] {
+        let start = place(&vec![lowest; n], &masks[..n - 1], 0);
+        let other = Parts { start, ..c.clone() };
+        assert!(p.trace(&other.bytes(), &mut []).is_err());
+        assert_seams(p, &other, &[c.start]);
+    }
+    let mut unreadable = c.clone();
+    unreadable.ends[0] = (0, 30);
+    unreadable.polynomials[0] = vec![term(1_048_576, &[2])];
+    unreadable.start.facet.lowest[0] = 20;
+    assert_eq!(p.trace(&unreadable.bytes(), &mut []), Err(10));
+    assert_eq!(refused(&unreadable.bytes()), None);
 }
 
 /// The five wrong turns.

@@ -6,6 +6,7 @@ use crate::ground::{self, Ground};
 use crate::job::{self, Job};
 use crate::limits::MOST;
 use crate::operations::{self, Move, Step, Verdict};
+use crate::seams::{self, Ending};
 use crate::small;
 
 /// Everything the product answers. A refusal is its number.
@@ -34,6 +35,8 @@ pub trait Product {
     fn small_open(&self, job: &[u8]) -> Result<(usize, Vec<usize>), u8>;
     /// Trace of the small cutter.
     fn small_trace(&self, job: &[u8], buffer: &mut [u8]) -> Result<(Verdict, usize), u8>;
+    /// How the list of seams ends, and the count of places written.
+    fn seams(&self, job: &[u8], buffer: &mut [u8]) -> Result<(Ending, usize), u8>;
 }
 
 /// What Open answers to a job that opens.
@@ -83,5 +86,8 @@ impl Product for Reference {
     }
     fn small_trace(&self, job: &[u8], buffer: &mut [u8]) -> Result<(Verdict, usize), u8> {
         small::small_trace(job, buffer)
+    }
+    fn seams(&self, job: &[u8], buffer: &mut [u8]) -> Result<(Ending, usize), u8> {
+        seams::seams(job, buffer)
     }
 }

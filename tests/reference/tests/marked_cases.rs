@@ -1,10 +1,11 @@
 //! Cases A to J, their like in dimension 4 and at a bias, running sums, halves of a step, grounds,
-//! the small cutter, and the wrong turns on the reference.
+//! the small cutter, the list of seams, and the wrong turns on the reference.
 
 use reference::build::{case_a, case_c};
 use reference::listing::listing;
 use reference::marked::{self, upright, CASE_A_LISTING, CASE_C_4_LISTING, UPRIGHT_LISTINGS};
 use reference::product::Reference;
+use reference::seams_listing::seams_listing;
 
 #[test]
 fn cases_a_to_j() {
@@ -42,6 +43,11 @@ fn small_cutter() {
 }
 
 #[test]
+fn seams() {
+    marked::seams(&Reference);
+}
+
+#[test]
 fn wrong_turns() {
     marked::wrong_turns(&Reference);
 }
@@ -58,4 +64,14 @@ fn listings() {
     assert_eq!(listing(&[]), "refused 1\n");
     assert_eq!(listing(&[0; 2048]), "refused 2\n");
     assert_eq!(listing(&[0; 2049]), "refused 5\n");
+}
+
+#[test]
+fn listings_of_seams() {
+    for (parts, text) in marked::seams_listings() {
+        assert_eq!(seams_listing(&parts.bytes()), text);
+    }
+    assert_eq!(seams_listing(&[]), "refused 1\n");
+    assert_eq!(seams_listing(&[0; 2048]), "refused 2\n");
+    assert_eq!(seams_listing(&[0; 2049]), "refused 5\n");
 }

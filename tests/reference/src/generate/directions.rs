@@ -24,7 +24,7 @@ named! {
 }
 
 /// A bias, often 0.
-fn any_bias(r: &mut Random) -> u8 {
+pub fn any_bias(r: &mut Random) -> u8 {
     let small = r.between(2, 20) as u8;
     r.pick(&[0, 0, 0, 1, small, 255])
 }
@@ -65,7 +65,7 @@ fn some_sums(r: &mut Random, n: usize, bias: u8, chosen: &Chosen) -> Vec<i64> {
 
 /// The polynomial with these sums at the vertices of the cube above a corner: a sum of products of
 /// different axes, each counted from the corner.
-fn through_cube(corner: &Vertex, sums: &[i64]) -> Vec<Term> {
+pub fn through_cube(corner: &Vertex, sums: &[i64]) -> Vec<Term> {
     let mut terms = Vec::new();
     for mask in 0..sums.len() {
         // By how much the sum there is over what the products of fewer axes give.
@@ -120,10 +120,15 @@ pub fn with_many_ties(r: &mut Random, n: usize) -> (Vertex, Parts) {
     with_chosen_values(r, n, &FOR_TIES)
 }
 
+/// The like for the ways through simplices.
+pub fn for_ways(r: &mut Random, n: usize) -> (Vertex, Parts) {
+    with_chosen_values(r, n, &FOR_WAYS)
+}
+
 /// Such a job with a start on a curve through the cube.
 fn in_cube(r: &mut Random, n: usize) -> Parts {
     loop {
-        let (corner, mut parts) = with_chosen_values(r, n, &FOR_WAYS);
+        let (corner, mut parts) = for_ways(r, n);
         if let Some(place) = crossed_in_cube(r, &parts, &corner) {
             parts.start = if r.once_in(4) { place } else { before(r, &parts, &place) };
             return parts;

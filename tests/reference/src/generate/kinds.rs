@@ -195,16 +195,16 @@ pub fn own_axes(r: &mut Random, n: usize) -> &'static [usize] {
 }
 
 /// Coefficients and degree of a polynomial.
-struct Shape {
+pub struct Shape {
     /// The most terms besides the linear one.
-    most: u64,
-    degree: u8,
+    pub most: u64,
+    pub degree: u8,
     /// The largest coefficient.
-    size: i64,
+    pub size: i64,
 }
 
 /// A polynomial of that shape, mostly with a linear term of the axis.
-fn polynomial(r: &mut Random, n: usize, axis: usize, shape: Shape) -> Vec<Term> {
+pub fn polynomial(r: &mut Random, n: usize, axis: usize, shape: Shape) -> Vec<Term> {
     let low_degree: Vec<[u8; MOST]> =
         exponents(n).iter().copied().filter(|e| e.iter().sum::<u8>() <= shape.degree).collect();
     let any = |r: &mut Random| r.between(-shape.size, shape.size);
@@ -219,7 +219,7 @@ fn polynomial(r: &mut Random, n: usize, axis: usize, shape: Shape) -> Vec<Term> 
 }
 
 /// A linear form with small coefficients, mostly with the axis if there is one; it may be 0.
-fn linear_form(r: &mut Random, n: usize, axis: Option<usize>) -> Vec<Term> {
+pub fn linear_form(r: &mut Random, n: usize, axis: Option<usize>) -> Vec<Term> {
     let mut form = vec![term(r.between(-2, 2), &[])];
     for other in 1..=n {
         form.push(Term { coefficient: r.between(-1, 1), exponents: power_of(other, 1) });
@@ -231,7 +231,7 @@ fn linear_form(r: &mut Random, n: usize, axis: Option<usize>) -> Vec<Term> {
 }
 
 /// A product of up to `most` linear forms, the first mostly with the axis: 0 at many grid points.
-fn linear_product(r: &mut Random, n: usize, axis: usize, most: u64) -> Vec<Term> {
+pub fn linear_product(r: &mut Random, n: usize, axis: usize, most: u64) -> Vec<Term> {
     let mut all = vec![term(r.pick(&[1, -1, 1, 2]), &[])];
     for k in 0..1 + r.below(most) {
         let form = linear_form(r, n, (k == 0).then_some(axis));
@@ -434,7 +434,7 @@ pub fn facet_near(r: &mut Random, n: usize, near: &Vertex) -> Facet {
 }
 
 /// A vertex of the box at most 1 away from another.
-fn vertex_near(r: &mut Random, ends: &Ends, near: &Vertex) -> Vertex {
+pub fn vertex_near(r: &mut Random, ends: &Ends, near: &Vertex) -> Vertex {
     let mut v = *near;
     for (x, &(low, high)) in v.iter_mut().zip(ends) {
         *x = (*x + r.between(-1, 1)).clamp(low, high);

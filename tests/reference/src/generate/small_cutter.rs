@@ -48,7 +48,7 @@ fn vertex_at_faces(r: &mut Random, ends: &[(i64, i64)]) -> Vertex {
 }
 
 /// The sum of a (x - c)^2 over the axes, by a factor a and a coordinate c of the centre for each.
-fn squares(of_axes: &[(i64, i64)]) -> Vec<Term> {
+pub fn squares(of_axes: &[(i64, i64)]) -> Vec<Term> {
     let mut terms = Vec::new();
     for (k, (a, c)) in of_axes.iter().enumerate() {
         let power = |coefficient, e| Term { coefficient, exponents: power_of(k + 1, e) };
@@ -58,7 +58,7 @@ fn squares(of_axes: &[(i64, i64)]) -> Vec<Term> {
 }
 
 /// An ellipsoid around a centre near a vertex.
-fn ellipsoid(r: &mut Random, n: usize, near: &Vertex) -> Vec<Term> {
+pub fn ellipsoid(r: &mut Random, n: usize, near: &Vertex) -> Vec<Term> {
     let radius = scale(n).radius;
     let of_axis = |x: &i64| (r.between(1, 2), x + r.between(-radius, radius));
     squares(&near[..n].iter().map(of_axis).collect::<Vec<_>>())

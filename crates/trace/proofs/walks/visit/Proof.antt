@@ -1,103 +1,20 @@
 -- `trace::walks::visit` meets its contract: the place is written, and the step from it decides.
 use borrow.Author.Needs.{needs}
-use mathlib.Core.Path.{sym, subst, _∙_}
-use Rattle.places.specs.Held.{placeAs}
-use Rattle.carried.specs.Carries.{AheadIs}
-use Rattle.job.proofs.OpenJob.{job-axes}
 use Rattle.step.proofs.HeldPlaces.{held-fits}
-use Rattle.trace.proofs.UnderWay.{ends-at-edge, ends-at-limit, ends-in-loop, goes-on}
 use Rattle.trace.proofs.walks.visit.Statement.{statement}
 use Rattle.trace.proofs.walks.visit.Tie as tie
 
 write-place-requires : tie.Need-write-place-requires
 write-place-requires c κs = (held-fits (c .before .before .before .pre .1 .0 .held), c .before .before .before .pre .1 .1)
 
-onward-requires : tie.Need-onward-requires
-onward-requires c κs = search needs
-
-enum-told : tie.Need-enum-told
-enum-told c = search needs
-
-enum-told-2 : tie.Need-enum-told-2
-enum-told-2 c = search needs
-
-enum-known-ahead : tie.Need-enum-known-ahead
-enum-known-ahead c = search needs
-
-same-facet-requires : tie.Need-same-facet-requires
-same-facet-requires c κs = job-axes (c .before .before .before .before .before .before .before .before .before .before .before .pre .0 .job)
+look-ahead-requires : tie.Need-look-ahead-requires
+look-ahead-requires c κs = search needs
 
 same-length : tie.Need-same-length
 same-length c = search needs
 
 returns : tie.Need-returns
-returns c =
-    let a = c .before .before .before .before .before .before .before .before .before .before .before .before .before .args in
-    let x = placeAs (a .n) (a .here .place) in
-    let after = c .before .before .before .before .before .onward .last .1 .1 .1 .0 in
-    let l = subst (λ r. AheadIs (a .job .now) (a .n) x r after) (c .before .before .before .ahead .given .1) (c .before .before .before .before .before .onward .ensures) in
-    record {
-      buffer = c .before .before .before .before .before .before .before .before .before .write-place .ensures;
-      answer = ends-in-loop (a .job .now) (a .n) (placeAs (a .n) (a .start)) x after (l .0) (sym (c .before .same-facet .ensures) ∙ c .if1 .taken);
-    }
-
-same-length-2 : tie.Need-same-length-2
-same-length-2 c = search needs
-
-returns-2 : tie.Need-returns-2
-returns-2 c =
-    let a = c .before .before .before .before .before .before .before .before .before .before .args in
-    let x = placeAs (a .n) (a .here .place) in
-    let after = c .before .before .onward .last .1 .1 .1 .0 in
-    let l = subst (λ r. AheadIs (a .job .now) (a .n) x r after) (c .enum-told .given .1) (c .before .before .onward .ensures) in
-    record {
-      buffer = c .before .before .before .before .before .before .write-place .ensures;
-      answer = ends-at-edge (a .job .now) (a .n) (placeAs (a .n) (a .start)) x after l;
-    }
-
-same-length-3 : tie.Need-same-length-3
-same-length-3 c = search needs
-
-returns-3 : tie.Need-returns-3
-returns-3 c =
-    let a = c .before .before .before .before .before .before .before .before .before .before .args in
-    let x = placeAs (a .n) (a .here .place) in
-    let after = c .before .before .onward .last .1 .1 .1 .0 in
-    let l = subst (λ r. AheadIs (a .job .now) (a .n) x r after) (c .enum-told2 .given .1) (c .before .before .onward .ensures) in
-    record {
-      buffer = c .before .before .before .before .before .before .write-place .ensures;
-      answer = ends-at-limit (a .job .now) (a .n) (placeAs (a .n) (a .start)) x after l;
-    }
-
-same-length-4 : tie.Need-same-length-4
-same-length-4 c = search needs
-
-returns-4 : tie.Need-returns-4
-returns-4 c =
-    let a = c .before .before .before .before .before .before .before .before .before .before .before .before .before .args in
-    let x = placeAs (a .n) (a .here .place) in
-    let after = c .before .before .before .before .before .onward .last .1 .1 .1 .0 in
-    let l = subst (λ r. AheadIs (a .job .now) (a .n) x r after) (c .before .before .before .ahead .given .1) (c .before .before .before .before .before .onward .ensures) in
-    record {
-      buffer = c .before .before .before .before .before .before .before .before .before .write-place .ensures;
-      answer = goes-on (a .job .now) (a .n) (placeAs (a .n) (a .start)) x l (sym (c .before .same-facet .ensures) ∙ c .if1 .left);
-    }
+returns c = record { buffer = c .before .before .before .before .write-place .ensures; answer = c .look-ahead .ensures }
 
 pub visit-spec : {M : Type 1} → statement M
-visit-spec =
-    tie.close
-    (tie.spec
-    write-place-requires
-    onward-requires
-    enum-told
-    enum-told-2
-    enum-known-ahead
-    same-facet-requires
-    same-length
-    returns
-    same-length-2
-    returns-2
-    same-length-3
-    returns-3
-    same-length-4
-    returns-4)
+visit-spec = tie.close (tie.spec write-place-requires look-ahead-requires same-length returns)

@@ -6,7 +6,7 @@ use mathlib.Core.Path.{subst}
 use borrow.Author.Needs.{needs}
 use Rattle.places.specs.Held.{placeAs}
 use Rattle.carried.specs.Carries.{Carries}
-use Rattle.trace.specs.Visited.{VisitedIs}
+use Rattle.ahead.specs.Visited.{VisitedIs}
 use Rattle.job.proofs.OpenJob.{job-axes}
 use Rattle.trace.proofs.UnderWay.{UnderWay, under-way, same-size, has-room, counts-on, after-size, is-full, is-over, stays-under-way}
 use Rattle.trace.proofs.walks.walk.Statement.{statement}

@@ -1,0 +1,2 @@
+-- One turn of a walk, as the code answers it.
+pub mod Visited
