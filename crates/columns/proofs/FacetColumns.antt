@@ -63,7 +63,7 @@ simplex-list n a c m1 m2 m3 m4 =
 
 -- ---- the columns
 
-facet-columns : (n : ℕ) (cells : List ℤ) → facetColumns n cells n ≡ map (columnAt n cells) (countFrom 0 n)
+pub facet-columns : (n : ℕ) (cells : List ℤ) → facetColumns n cells n ≡ map (columnAt n cells) (countFrom 0 n)
 unfolding facetColumns simplexColumns
 facet-columns n cells = remove-last (columnAt n cells) 0 n
 

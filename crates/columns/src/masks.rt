@@ -15,7 +15,7 @@ use places::Vertex;
 use values::lattice;
 
 // The mask of vertex k: 0 for the base, then m1 to m4.
-fn mask_at(m1: u64, m2: u64, m3: u64, m4: u64, k: usize) -> u64
+pub fn mask_at(m1: u64, m2: u64, m3: u64, m4: u64, k: usize) -> u64
     ensures { λ r. ⌜ r ≡ maskAt m1 m2 m3 m4 k ⌝ }
 {
     if k == 0 {

@@ -6,7 +6,7 @@ use std::process::{Command, Stdio};
 
 use library::answers::and_those_of_open;
 use reference::build::case_a;
-use reference::generate::{any_job_in_small_box, any_outlines, JobTally, Random};
+use reference::generate::{any_job_in_small_box, any_outlines, Random};
 use reference::job::open;
 use reference::limits::DIMENSIONS;
 use reference::many_seams::many_seams;
@@ -103,11 +103,10 @@ fn verdict(line: &str) -> &'static str {
 /// Jobs to list, each with its dimension and whether it has a bias.
 fn jobs() -> Vec<(usize, bool, Vec<u8>)> {
     let mut r = Random::new(88);
-    let (mut any, mut made) = (JobTally::default(), Tally::default());
+    let mut made = Tally::default();
     let mut jobs = Vec::new();
-    for _ in 0..1_500 {
+    for _ in 0..2_000 {
         let job = any_job_in_small_box(&mut r);
-        any.count(&job);
         if open(&job.bytes).map_or(true, |opened| is_small(&opened)) {
             jobs.push((job.n(), job.bytes.get(3).is_some_and(|&bias| bias > 0), job.bytes));
         }

@@ -1018,6 +1018,11 @@ pub fn seams(p: &dyn Product) {
         seams_joined_by_the_bias(p, n);
         refusals_of_seams(p, n);
     }
+    // A at bias 1 is above 0 at the four corners of the box alone, at bias 3 nowhere.
+    let corners = [([-1, -1], 1), ([-1, 0], 2), ([0, -1], 1), ([0, 0], 3)];
+    let around = corners.map(|(lowest, mask)| place(&lowest, &[mask], 0));
+    assert_seams(p, &Parts { bias: 1, ..case_a() }, &around);
+    assert_seams(p, &Parts { bias: 3, ..case_a() }, &[]);
     // No facet of the box is behind this one.
     assert_seams(p, &readable_at_the_end(), &[place(&[21, 30], &[2], 0)]);
 }
@@ -1104,7 +1109,18 @@ pub fn seams_listings() -> Vec<(Parts, &'static str)> {
         (readable_at_0(2), "2 complete 1\n20 0 1 0 limit 1\n"),
         (readable_at_0(4), "4 complete 1\n20 0 0 0 1 3 7 0 limit 1\n"),
         (readable_at_the_end(), "2 complete 1\n21 30 2 0 edge 1\n"),
-        (Parts { bias: 2, ..case_a() }, "2 complete 0\n"),
+        // A at bias 1 is above 0 at the four corners of the box alone. The seam around the last has
+        // three facets, and its place is between the others.
+        (
+            Parts { bias: 1, ..case_a() },
+            "2 complete 4
+-1 -1 1 0 edge 3
+-1 0 2 0 edge 2
+0 -1 1 0 edge 2
+0 0 3 0 edge 2
+",
+        ),
+        (Parts { bias: 3, ..case_a() }, "2 complete 0\n"),
     ]
 }
 

@@ -9,7 +9,8 @@ use crate::cartesian::cartesian;
 use crate::crossed::Term;
 use crate::curve::vertices_of_box;
 use crate::generate::{
-    any_job_in_small_box, any_outlines, outlines_of, through_cube, vertex_in, JobTally, Random, Size,
+    any_job_in_small_box, any_outlines, outlines_of, through_cube, vertex_in, JobTally, Random,
+    Size,
 };
 use crate::grid::{chains, Facet, Place};
 use crate::job::{open, Job};
@@ -123,8 +124,8 @@ pub struct Least {
     pub starts: u64,
 }
 
-/// So many jobs in small boxes, with any start; each with space for all its seams or a little more,
-/// and with any space up to one more.
+/// So many jobs in small boxes, with any start; each with space for all its seams or a little more
+/// and, if it has some, with any space that is no larger.
 pub fn small_boxes(product: &impl Product, seed: u64, jobs: usize, least: Least) {
     let mut r = Random::new(seed);
     let (mut made, mut starts) = (Tally::default(), Tally::default());
@@ -135,7 +136,8 @@ pub fn small_boxes(product: &impl Product, seed: u64, jobs: usize, least: Least)
         let (count, size) = (case.seams.len(), case.size());
         let kind_of_start = r.named();
         let start = start_of(&mut r, &case, kind_of_start);
-        for space in [count + r.index(3), r.index(count + 2)] {
+        let spaces = [count + r.index(3), r.index(count + 1)];
+        for &space in &spaces[..1 + (count > 0) as usize] {
             let rest = r.index(size);
             let length = size * space + r.pick(&[0, 0, rest]);
             case.check_with(product, &mut r, &start, length);
@@ -160,15 +162,15 @@ pub fn small_boxes(product: &impl Product, seed: u64, jobs: usize, least: Least)
     met.assert_lies(least.lies);
 }
 
-/// So many jobs, each with every space from none to one more than it has seams, with no byte more,
-/// one more, and one less than another place has.
+/// So many jobs, each with every space from none to one more than it has seams, with no byte more
+/// and with some that are no place.
 pub fn every_space(product: &impl Product, seed: u64, jobs: usize, least: ByDimension) {
     let mut r = Random::new(seed);
     let mut met = SeamsMet::default();
     for _ in 0..jobs {
         let case = Case::of(&any_outlines(&mut r).1);
         for space in 0..=case.seams.len() + 1 {
-            for rest in [0, 1, case.size() - 1] {
+            for rest in [0, 1 + r.index(case.size() - 1)] {
                 case.check(product, &mut r, case.size() * space + rest);
             }
             met.count_answer(&case.job, &case.seams, space);
@@ -177,14 +179,14 @@ pub fn every_space(product: &impl Product, seed: u64, jobs: usize, least: ByDime
     met.assert_listed(least);
 }
 
-/// So many jobs, each with several starts of each kind: the answer is the same.
+/// So many jobs, each with two starts of each kind: the answer is the same.
 pub fn any_start(product: &impl Product, seed: u64, jobs: usize, least: u64) {
     let mut r = Random::new(seed);
     let (mut kinds, mut answers) = (Tally::default(), Tally::default());
     for _ in 0..jobs {
         let case = Case::of(&any_outlines(&mut r).1);
         let length = case.size() * r.index(case.seams.len() + 2);
-        for kind in StartKind::all().into_iter().flat_map(|kind| [kind; 3]) {
+        for kind in StartKind::all().into_iter().flat_map(|kind| [kind; 2]) {
             let start = start_of(&mut r, &case, kind);
             case.check_with(product, &mut r, &start, length);
             kinds.count(case.job.n, kind);
@@ -210,18 +212,22 @@ pub fn goes_by_the_bias(product: &impl Product, seed: u64, jobs: usize, least: B
                 break parts;
             }
         };
-        let [biased, plain] = [parts.bias, 0].map(|bias| Case::of(&Parts { bias, ..parts.clone() }));
+        let [biased, plain] =
+            [parts.bias, 0].map(|bias| Case::of(&Parts { bias, ..parts.clone() }));
         for case in [&biased, &plain] {
             case.check(product, &mut r, case.size() * (case.seams.len() + 1));
         }
         let [same, as_many, fewer, more] = BY_BIAS;
         let (one, other) = (biased.seams.len(), plain.seams.len());
-        met.count(parts.n, match one.cmp(&other) {
-            std::cmp::Ordering::Less => fewer,
-            std::cmp::Ordering::Greater => more,
-            std::cmp::Ordering::Equal if biased.list == plain.list => same,
-            std::cmp::Ordering::Equal => as_many,
-        });
+        met.count(
+            parts.n,
+            match one.cmp(&other) {
+                std::cmp::Ordering::Less => fewer,
+                std::cmp::Ordering::Greater => more,
+                std::cmp::Ordering::Equal if biased.list == plain.list => same,
+                std::cmp::Ordering::Equal => as_many,
+            },
+        );
     }
     for (n, least) in DIMENSIONS.into_iter().zip(least) {
         met.assert_often_in(n, least, &BY_BIAS);
@@ -315,9 +321,9 @@ pub fn larger_boxes(product: &impl Product, seed: u64, jobs: ByDimension) {
             met.count(n, count.min(8));
         }
         println!("{n}: {facets} facets, the longest seam has {longest}");
-        assert!(facets as u64 > 15 * jobs && longest > 40);
+        assert!(facets as u64 > 10 * jobs && longest > 25);
     }
-    met.assert_includes(&[0, 1, 2, 3, 4, 8]);
+    met.assert_includes(&[0, 1, 2, 3, 4]);
 }
 
 /// A line along an axis of a box that is as long as a box may be, and as narrow on the others; and
@@ -342,7 +348,10 @@ pub fn long_boxes(product: &impl Product, seed: u64, jobs: usize) {
             at[axis - 1] = r.pick(&[-most, most, most - 1, at[axis - 1]]);
             let form = |r: &mut Random| {
                 let terms: Vec<Term> = (1..=n)
-                    .map(|k| Term { coefficient: r.pick(&[2, 1, -1, -2]), exponents: power_of(k, 1) })
+                    .map(|k| Term {
+                        coefficient: r.pick(&[2, 1, -1, -2]),
+                        exponents: power_of(k, 1),
+                    })
                     .collect();
                 let there: i64 = terms.iter().zip(at).map(|(t, x)| t.coefficient * x).sum();
                 gathered(&[&terms[..], &[term(r.between(-1, 1) - there, &[])]].concat())

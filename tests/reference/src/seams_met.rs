@@ -164,8 +164,7 @@ fn changes(order: OtherOrder, seams: &[Seam]) -> Vec<&'static str> {
     let least = |seam: &Seam| seam.facets.iter().map(|f| order.key(f)).min();
     let is_other_place = |seam: &Seam| least(seam) != Some(order.key(&seam.least()));
     let keys: Vec<_> = seams.iter().map(|seam| order.key(&seam.least())).collect();
-    let found =
-        [seams.iter().any(is_other_place), keys.windows(2).any(|pair| pair[0] > pair[1])];
+    let found = [seams.iter().any(is_other_place), keys.windows(2).any(|pair| pair[0] > pair[1])];
     CHANGES.into_iter().zip(found).filter(|(_, is_so)| *is_so).map(|(change, _)| change).collect()
 }
 
@@ -219,7 +218,8 @@ fn lies(job: &Job, seam: &Seam, last_crossed: Option<Facet>) -> Vec<Lies> {
     let is_alone = seam.facets.len() == 1;
     let mut found = Vec::new();
     for (k, &(low, high)) in job.ends.iter().enumerate() {
-        let vertices = seam.facets.iter().flat_map(|facet| facet.vertices().into_iter().take(job.n));
+        let vertices =
+            seam.facets.iter().flat_map(|facet| facet.vertices().into_iter().take(job.n));
         let (mut at_least, mut at_largest) = (false, false);
         if low == -LARGEST_COORDINATE || high == LARGEST_COORDINATE {
             for v in vertices {
@@ -258,7 +258,10 @@ pub struct SeamsMet {
 
 /// Each case at bias 0 and above.
 fn with_and_without_bias<T: Named>() -> Vec<(bool, T)> {
-    [false, true].into_iter().flat_map(|bias| T::all().into_iter().map(move |c| (bias, c))).collect()
+    [false, true]
+        .into_iter()
+        .flat_map(|bias| T::all().into_iter().map(move |c| (bias, c)))
+        .collect()
 }
 
 impl SeamsMet {

@@ -5,14 +5,19 @@ use std::collections::HashSet;
 
 use reference::curve::Joints;
 use reference::generate::{outlines_of, Random, Size};
-use reference::grid::{Facet, Place};
+use reference::grid::{Facet, Masks, Place, Vertex};
 use reference::job::Job;
 use reference::limits::DIMENSIONS;
 use reference::operations::{trace_places, Verdict};
 use reference::product::Reference;
 use reference::seams::{seams_of, Seam};
 use reference::seams_checks::{self as checks, Least};
-use reference::tally::{Named, Tally};
+use reference::tally::Tally;
+
+/// What facets are compared by: the lowest vertex, then the masks.
+fn key(facet: &Facet) -> (Vertex, Masks) {
+    (facet.lowest, facet.masks)
+}
 
 /// The trace of the same job with that place as its start.
 fn from_place(job: &Job, start: Place) -> (Verdict, Vec<Place>) {
@@ -20,7 +25,7 @@ fn from_place(job: &Job, start: Place) -> (Verdict, Vec<Place>) {
 }
 
 /// The two traces from the place have just the facets of the seam. On one that closes each has them
-/// all; on others only the place is on both, and edges and limits are as the flood fill counts them.
+/// all; on others only the place is on both, and edges and limits are as the flood fill has them.
 fn check_traces(job: &Job, seam: &Seam) {
     let place = seam.place();
     let (verdict, forth) = from_place(job, place);
@@ -34,7 +39,7 @@ fn check_traces(job: &Job, seam: &Seam) {
     assert_eq!((count(Verdict::Edge), count(Verdict::Limit)), (seam.edges, seam.limits));
     let listed_twice = if seam.closes() { facets.len() } else { 1 };
     assert_eq!(forth.len() + back.len(), facets.len() + listed_twice);
-    assert!(facets.iter().all(|facet| (facet.lowest, facet.masks) >= (place.facet.lowest, place.facet.masks)));
+    assert!(facets.iter().all(|facet| key(facet) >= key(&place.facet)));
 }
 
 /// So many jobs of each dimension in small boxes, and some in larger ones: the curves by sets are the
@@ -53,7 +58,7 @@ fn seams_are_the_curves() {
             let curves = joints.curves();
             assert_eq!(seams.len(), curves.len());
             let least: Vec<Facet> = seams.iter().map(|seam| seam.least()).collect();
-            assert!(least.windows(2).all(|pair| (pair[0].lowest, pair[0].masks) < (pair[1].lowest, pair[1].masks)));
+            assert!(least.windows(2).all(|pair| key(&pair[0]) < key(&pair[1])));
             for seam in &seams {
                 let curve = joints.curve(&seam.least());
                 assert_eq!(seam.facets.iter().copied().collect::<HashSet<_>>(), curve);
@@ -89,7 +94,7 @@ fn every_space() {
 
 #[test]
 fn any_start() {
-    checks::any_start(&Reference, 73, 2_000, 100);
+    checks::any_start(&Reference, 73, 2_000, 50);
 }
 
 #[test]
@@ -100,6 +105,11 @@ fn goes_by_the_bias() {
 #[test]
 fn any_jobs() {
     checks::any_jobs(&Reference, 75, 30_000);
+}
+
+#[test]
+fn least_number_is_answered() {
+    checks::least_number_is_answered(&Reference);
 }
 
 #[test]
@@ -124,5 +134,5 @@ fn with_many_seams() {
 
 #[test]
 fn each_facet_in_one_seam() {
-    checks::each_facet_in_one_seam(&Reference, 78, [200, 100, 20]);
+    checks::each_facet_in_one_seam(&Reference, 78, [1_000, 500, 250]);
 }

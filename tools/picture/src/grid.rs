@@ -1,9 +1,12 @@
-//! The grid of a job of dimension 2: its triangles, and the lattice vertices that count as 0.
+//! The grid of a job of dimension 2: its triangles, the lattice vertices that count as 0, and those
+//! whose value is not readable.
 
 use crate::Ends;
 
 /// In a larger box the lines of the grid would leave no white between them.
 const MOST_UNITS: f64 = 40.0;
+/// The largest size of a readable value.
+const READABLE: u64 = 268_435_456;
 
 /// The two ends of a line.
 pub type Line = [[f64; 2]; 2];
@@ -43,17 +46,29 @@ fn value(terms: &[u8], x: i64, y: i64) -> i64 {
     terms.chunks_exact(8).map(product).fold(0, i64::wrapping_add)
 }
 
-/// The lattice vertices of the box whose value is no larger in size than the job's bias.
-pub fn zeros(job: &[u8], [across, up]: [Ends; 2]) -> Option<Vec<[f64; 2]>> {
+/// The lattice vertices of the box whose value is of a size for which the test holds.
+fn vertices(
+    job: &[u8],
+    [across, up]: [Ends; 2],
+    test: impl Fn(u64) -> bool,
+) -> Option<Vec<[f64; 2]>> {
     let field = |at: usize| Some(u16::from_le_bytes([*job.get(at)?, *job.get(at + 1)?]) as usize);
-    let (bias, offset, length) = (*job.get(3)?, field(8)?, field(10)?);
+    let (offset, length) = (field(8)?, field(10)?);
     let terms = job.get(offset..offset + length)?;
-    let counts_as_0 = |v: &[f64; 2]| {
-        let size = value(terms, v[0] as i64, v[1] as i64).unsigned_abs();
-        size <= bias as u64
-    };
+    let passes = |v: &[f64; 2]| test(value(terms, v[0] as i64, v[1] as i64).unsigned_abs());
     let vertices = whole(across).flat_map(|x| whole(up).map(move |y| [x, y]));
-    Some(vertices.filter(counts_as_0).collect())
+    Some(vertices.filter(passes).collect())
+}
+
+/// The lattice vertices of the box whose value is no larger in size than the job's bias.
+pub fn zeros(job: &[u8], axes: [Ends; 2]) -> Option<Vec<[f64; 2]>> {
+    let bias = *job.get(3)?;
+    vertices(job, axes, |size| size <= bias as u64)
+}
+
+/// The lattice vertices of the box whose value is not readable.
+pub fn unreadable(job: &[u8], axes: [Ends; 2]) -> Option<Vec<[f64; 2]>> {
+    vertices(job, axes, |size| size > READABLE)
 }
 
 #[cfg(test)]
@@ -99,5 +114,16 @@ mod tests {
         let more: Vec<_> = biased.iter().filter(|v| !exact.contains(v)).collect();
         assert_eq!((biased.len(), more), (8, vec![&[-1.0, 1.0], &[1.0, 1.0]]));
         assert_eq!(zeros(&job[..39], ENDS), None);
+        assert_eq!(unreadable(&job, ENDS), Some(Vec::new()));
+    }
+
+    /// Case I: 1,048,576 x squared at 16 is readable, at 17 not.
+    #[test]
+    fn vertices_that_are_not_readable() {
+        let mut job = vec![1, 2, 3, 0, 16, 0, 8, 0, 24, 0, 8, 0, 32, 0, 6, 0];
+        job.resize(24, 0);
+        job.extend([0, 0, 16, 0, 2, 0, 0, 0]);
+        let found = unreadable(&job, [(-17.0, 16.0), (0.0, 1.0)]);
+        assert_eq!(found, Some(vec![[-17.0, 0.0], [-17.0, 1.0]]));
     }
 }
