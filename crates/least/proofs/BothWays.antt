@@ -86,7 +86,7 @@ test-parts : (s : List ℕ) (f : Facet) → Traceable (dimension s) (fieldOf s) 
 unfolding leastIn leastTest clearFrom restFrom trace stepIn onSameFacet turn front
 test-parts s f o = rw o
 
-front-is : (n : ℕ) (p : HeldPlace) → p .side ≡ 0 → placeAs n p ≡ front (facetAs n p)
+pub front-is : (n : ℕ) (p : HeldPlace) → p .side ≡ 0 → placeAs n p ≡ front (facetAs n p)
 unfolding placeAs front
 front-is n p e = λ i. record { facet = facetAs n p; side = e i }
 

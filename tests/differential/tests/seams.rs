@@ -12,7 +12,7 @@ fn small_boxes() {
         standing: [20, 80, 800],
         orders: [1_500, 300, 500],
         chains: [800, 150, 30],
-        lies: [300, 80, 25],
+        lies: [1; 3],
         starts: 600,
     };
     checks::small_boxes(&Library, 80, 120_000, least);
@@ -20,7 +20,7 @@ fn small_boxes() {
 
 #[test]
 fn every_space() {
-    checks::every_space(&Library, 81, 12_000, [5, 50, 100]);
+    checks::every_space(&Library, 81, 12_000, [1; 3]);
 }
 
 #[test]
@@ -51,6 +51,11 @@ fn larger_boxes() {
 #[test]
 fn long_boxes() {
     checks::long_boxes(&Library, 86, 24);
+}
+
+#[test]
+fn long_seam() {
+    checks::long_seam(&Library);
 }
 
 #[test]

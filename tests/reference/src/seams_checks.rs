@@ -15,6 +15,7 @@ use crate::generate::{
 use crate::grid::{chains, Facet, Place};
 use crate::job::{open, Job};
 use crate::limits::{DIMENSIONS, LARGEST_COORDINATE};
+use crate::long_curves::long_curves;
 use crate::many_seams::many_seams;
 use crate::named;
 use crate::operations::{facet_columns, facet_is_crossed, with_start, Verdict};
@@ -318,7 +319,7 @@ pub fn larger_boxes(product: &impl Product, seed: u64, jobs: ByDimension) {
             let lengths = case.seams.iter().map(|seam| seam.facets.len());
             facets += lengths.clone().sum::<usize>();
             longest = longest.max(lengths.max().unwrap_or(0));
-            met.count(n, count.min(8));
+            met.count(n, count.min(4));
         }
         println!("{n}: {facets} facets, the longest seam has {longest}");
         assert!(facets as u64 > 10 * jobs && longest > 25);
@@ -366,6 +367,14 @@ pub fn long_boxes(product: &impl Product, seed: u64, jobs: usize) {
         let wanted: Vec<_> = (1..=n).map(|axis| (axis, true)).collect();
         met.assert_often_in(n, jobs as u64 / 8, &wanted);
     }
+}
+
+/// The long closed curve of dimension 2, in the largest box.
+pub fn long_seam(product: &impl Product) {
+    let [(parts, count), ..] = long_curves();
+    let case = Case::of(&parts);
+    assert_eq!(case.seams.iter().map(|seam| seam.facets.len()).max(), Some(count));
+    case.check(product, &mut Random::new(67), case.size() * (case.seams.len() + 1));
 }
 
 /// Twice the quadratic polynomial of an axis that is 1 at -1, 0 or 1 and 0 at the other two.

@@ -181,16 +181,19 @@ pub enum Lies {
     Last,
     /// Behind it no facet of the box is crossed, and it is by itself.
     LastCrossed,
-    /// A vertex of the seam has the least coordinate on this axis that a box may have.
+    /// The lowest vertex has the least coordinate on this axis that a box may have.
     Least(usize),
-    /// A vertex of the seam has the largest.
+    /// It has the largest: the facet is by itself.
     Largest(usize),
+    /// A vertex of the seam has the largest.
+    Reaches(usize),
 }
 
 impl Lies {
     /// Each that there is in a dimension.
     pub fn all(n: usize) -> Vec<Lies> {
-        let of_axis = |k| [Lies::Low(k), Lies::High(k), Lies::Least(k), Lies::Largest(k)];
+        let of_axis =
+            |k| [Lies::Low(k), Lies::High(k), Lies::Least(k), Lies::Largest(k), Lies::Reaches(k)];
         let of_axes = (1..=n).flat_map(of_axis);
         of_axes.chain([Lies::First, Lies::Last, Lies::LastCrossed]).collect()
     }
@@ -211,37 +214,29 @@ pub fn first_and_last(job: &Job) -> (Facet, Facet) {
     (first, Facet { n, lowest: lowest[1], masks: *last })
 }
 
-/// Where the place of the last seam, or of another, lies.
+/// Where the place of a seam lies.
 fn lies(job: &Job, seam: &Seam, last_crossed: Option<Facet>) -> Vec<Lies> {
     let least = seam.least();
     let (first, last) = first_and_last(job);
     let is_alone = seam.facets.len() == 1;
-    let mut found = Vec::new();
-    for (k, &(low, high)) in job.ends.iter().enumerate() {
-        let vertices =
-            seam.facets.iter().flat_map(|facet| facet.vertices().into_iter().take(job.n));
-        let (mut at_least, mut at_largest) = (false, false);
-        if low == -LARGEST_COORDINATE || high == LARGEST_COORDINATE {
-            for v in vertices {
-                at_least |= v[k] == -LARGEST_COORDINATE;
-                at_largest |= v[k] == LARGEST_COORDINATE;
-            }
-        }
-        let cases = [
-            (least.lowest[k] == low, Lies::Low(k + 1)),
-            (least.lowest[k] == high, Lies::High(k + 1)),
-            (at_least, Lies::Least(k + 1)),
-            (at_largest, Lies::Largest(k + 1)),
-        ];
-        found.extend(cases.into_iter().filter(|(holds, _)| *holds).map(|(_, lies)| lies));
-    }
-    let cases = [
+    let mut cases = vec![
         (least == first, Lies::First),
         (least == last, Lies::Last),
         (is_alone && Some(least) == last_crossed, Lies::LastCrossed),
     ];
-    found.extend(cases.into_iter().filter(|(holds, _)| *holds).map(|(_, lies)| lies));
-    found
+    for (k, &(low, high)) in job.ends.iter().enumerate() {
+        let (axis, x) = (k + 1, least.lowest[k]);
+        let reaches = |facet: &Facet| facet.vertices()[job.n - 1][k] == LARGEST_COORDINATE;
+        let is_far = high == LARGEST_COORDINATE;
+        cases.extend([
+            (x == low, Lies::Low(axis)),
+            (x == high, Lies::High(axis)),
+            (x == -LARGEST_COORDINATE, Lies::Least(axis)),
+            (x == LARGEST_COORDINATE, Lies::Largest(axis)),
+            (is_far && seam.facets.iter().any(reaches), Lies::Reaches(axis)),
+        ]);
+    }
+    cases.into_iter().filter(|(holds, _)| *holds).map(|(_, lies)| lies).collect()
 }
 
 /// Counts of what lists had; what has a flag is counted apart at bias 0 and above.

@@ -76,13 +76,13 @@ fn seams_are_the_curves() {
 #[test]
 fn small_boxes() {
     let least = Least {
-        listed: [1; 3],
-        runs: [1; 3],
-        standing: [1; 3],
-        orders: [1; 3],
-        chains: [1; 3],
+        listed: [10, 100, 250],
+        runs: [20, 10, 90],
+        standing: [6, 25, 250],
+        orders: [500, 100, 150],
+        chains: [250, 50, 5],
         lies: [1; 3],
-        starts: 1,
+        starts: 200,
     };
     checks::small_boxes(&Reference, 71, 40_000, least);
 }
@@ -99,7 +99,7 @@ fn any_start() {
 
 #[test]
 fn goes_by_the_bias() {
-    checks::goes_by_the_bias(&Reference, 74, 5_000, [1; 3]);
+    checks::goes_by_the_bias(&Reference, 74, 5_000, [80; 3]);
 }
 
 #[test]
@@ -114,12 +114,17 @@ fn least_number_is_answered() {
 
 #[test]
 fn larger_boxes() {
-    checks::larger_boxes(&Reference, 76, [100, 60, 40]);
+    checks::larger_boxes(&Reference, 76, [200, 120, 100]);
 }
 
 #[test]
 fn long_boxes() {
     checks::long_boxes(&Reference, 77, 10);
+}
+
+#[test]
+fn long_seam() {
+    checks::long_seam(&Reference);
 }
 
 #[test]

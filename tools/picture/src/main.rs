@@ -243,6 +243,7 @@ fn of_seams(job: &[u8]) -> Result<String, String> {
     picture(job, &ends, &all.into_iter().map(coloured).collect::<Vec<_>>())
 }
 
+/// The picture of these curves in the box of their job, or what is wrong.
 fn picture(job: &[u8], ends: &[Ends], curves: &[Drawn]) -> Result<String, String> {
     let fourth = ends.get(3);
     let edges = edges(&ends[..ends.len().min(3)]);

@@ -31,7 +31,7 @@ named! {
         AroundVertices: 3,
         /// A constant less the square of a form that is large beside a plane: 0 or above at vertices
         /// that lie apart, and a seam around each.
-        Ridge: 2,
+        Ridge: 4,
         /// Polynomials that differ by constants, at a large bias: where it is passed changes from
         /// vertex to vertex, and seams are many and short. In dimension 2 there is only one.
         Ragged: 2,
@@ -268,12 +268,14 @@ fn large_beside(r: &mut Random, plane: &[Term], ends: &Ends, at: &Vertex, far: u
     product(&[term(factor, &[])], &all)
 }
 
-/// A box that is far from 0 on one axis, and that axis.
+/// A box that is far from 0 on one axis, every second time up to the largest coordinate, and that
+/// axis.
 fn far_on_one_axis(r: &mut Random, n: usize, size: Size) -> (Ends, usize) {
     let mut ends = around_origin(r, n, size);
     let far = 1 + r.index(n);
     let (low, high) = ends[far - 1];
-    let away = r.between(16, 230) * r.pick(&[1, -1]);
+    let away = r.between(16, 230);
+    let away = r.pick(&[away, -away, LARGEST_COORDINATE - high, -LARGEST_COORDINATE - low]);
     ends[far - 1] = (low + away, high + away);
     (ends, far)
 }

@@ -1,0 +1,4 @@
+-- Laws that the proofs of the functions cite, a file for each idea.
+pub mod AxisSizes
+pub mod JobBox
+pub mod VertexNumbers

@@ -1,0 +1,83 @@
+-- The facets with a lowest vertex, chain by chain of the table.
+use Prim.Native.Nat.{ℕ, suc, _+_, _<_}
+use mathlib.Core.Path.{_≡_, refl, sym, ap, ap₂, subst, _∙_}
+use mathlib.Core.Bool.{Bool, true, _&&_}
+use mathlib.Core.List.{List, [], _∷_, map}
+use lib.IntN.{ℤ}
+use lib.ListN.{length, getD}
+use lib.Dec.{eqb}
+use borrow.Author.Tests.{eq-eqb}
+use Rattle.exact.proofs.AndTests.{and-true}
+use Rattle.exact.specs.Crossed.{countFrom}
+use Rattle.curves.specs.Grid.{Facet, facetOk, chain}
+use Rattle.curves.specs.Grid as Grid
+use Rattle.curves.specs.Box.{keep, chains}
+use Rattle.columns.proofs.Counted.{map-map}
+use Rattle.bits.specs.Axes.{Axes}
+use Rattle.bits.proofs.EachDimension.{each-axes}
+use Rattle.places.specs.Held.{vertexAs, facetAs, VertexSize}
+use Rattle.places.specs.declared.Vertex.{Vertex}
+use Rattle.places.specs.declared.HeldPlace.{HeldPlace}
+use Rattle.job.proofs.OpenJob.{job-axes}
+use Rattle.step.specs.Held.{heldLimit}
+use Rattle.cube.specs.Cube.{Cube}
+use Rattle.scan.specs.Chains.{chainArray, firstChain, chainWord, chainOf, facetOn, PlaceOn}
+use Rattle.scan.specs.Scanned.{OnCube, CubeAt}
+use Rattle.scan.proofs.ChainTable.{chainCount, chains-tabled, digits-under, chain-formed}
+use Rattle.scan.proofs.Gathered.{gathered, keep-gathered}
+
+-- facet j with a lowest vertex
+unfoldable pub facetAt : ℕ → Grid.Vertex → ℕ → Facet
+facetAt n v j = facetOn v (chainOf n (chainWord n j))
+
+-- what is met at facet j
+unfoldable pub metAt : (Facet → Bool) → ℕ → Grid.Vertex → ℕ → List Facet
+metAt t n v j = keep t (facetAt n v j ∷ [])
+
+-- all that is met at a vertex
+pub met-all : (t : Facet → Bool) (n : ℕ) (v : Grid.Vertex) → Axes n → gathered (metAt t n v) (chainCount n) ≡ keep t (map (facetOn v) (chains n))
+unfolding metAt facetAt
+met-all t n v a =
+    sym (keep-gathered t (facetAt n v) (chainCount n))
+    ∙ ap (keep t) (sym (map-map (facetOn v) (λ j. chainOf n (chainWord n j)) (countFrom 0 (chainCount n))) ∙ ap (map (facetOn v)) (sym (chains-tabled n a)))
+
+-- an entry of the table
+pub word-is : (n j : ℕ) {f : ℕ} {t : List ℕ} → t ≡ chainArray → f ≡ firstChain n → getD t (f + j) 0 ≡ chainWord n j
+unfolding chainWord
+word-is n j e h = ap₂ (λ t f. getD t (f + j) 0) e h
+
+vertex-length : (n : ℕ) (v : Vertex) → Axes n → length (vertexAs n v) ≡ n
+unfolding vertexAs
+vertex-length n v a = each-axes (λ n. length (vertexAs n v) ≡ n) refl refl refl n a
+
+module _ {s : List ℕ} {n : ℕ} {v : Vertex} {values : List ℤ} {known : List Bool} (c : CubeAt s n v values known) {j : ℕ} (l : j < chainCount n)
+    {w : ℕ} (is : w ≡ chainWord n j) {p : HeldPlace} (o : PlaceOn v w p) where
+  pub facet-is : facetAs n p ≡ facetAt n (vertexAs n v) j
+  unfolding facetAt
+  facet-is = o .facet n ∙ ap (λ w. facetOn (vertexAs n v) (chainOf n w)) is
+
+  form : facetOk n (facetAt n (vertexAs n v) j) ≡ true
+  unfolding facetOk facetAt facetOn
+  form = and-true (eq-eqb (length (vertexAs n v)) n (vertex-length n v (job-axes (c .job)))) (chain-formed n (job-axes (c .job)) j l)
+
+  pub on-cube : OnCube s n p values known
+  on-cube =
+      let u = digits-under n (job-axes (c .job)) j l in
+      record {
+        job = c .job;
+        form = ap (facetOk n) facet-is ∙ form;
+        masks = record {
+          mask1 = rw (o .mask1, is) (u .0);
+          mask2 = rw (o .mask2, is) (u .1 .0);
+          mask3 = rw (o .mask3, is) (u .1 .1);
+        };
+        side = o .side;
+        size = subst (VertexSize heldLimit) (sym (o .low)) (c .size);
+        one = c .one;
+        cube = subst (λ u. Cube s n (vertexAs n u) values known (c .one)) (sym (o .low)) (c .cube);
+      }
+
+  -- what is met there
+  pub met-here : (t : Facet → Bool) → keep t (facetAs n p ∷ []) ≡ metAt t n (vertexAs n v) j
+  unfolding metAt
+  met-here t = ap (λ f. keep t (f ∷ [])) facet-is

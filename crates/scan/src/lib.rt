@@ -1,0 +1,98 @@
+// Every seam in a job's box: document 02, request 2.4. The lowest vertices are taken in order, at each of them the facets in order, and a facet that
+// is the least of its seam is written.
+
+// The chains of masks.
+mod chains;
+
+ghost use mathlib.Core.Path.{_≡_};
+ghost use mathlib.Core.List.{map, [], _∷_};
+ghost use Prim.Native.Nat.{_≤_};
+ghost use Rattle.curves.specs.Box.{keep, chains};
+ghost use Rattle.places.specs.Held.{vertexAs, facetAs};
+ghost use Rattle.least.specs.Search.{leastIn};
+ghost use Rattle.scan.specs.Chains.{chainArray, facetOn};
+ghost use Rattle.scan.specs.Scanned.{spaceFor, ScannedIs, OnCube, CubeAt};
+use least::search;
+use places::HeldPlace;
+use places::Vertex;
+
+// After a part of the scan: no space for one more seam, or the number of places written so far.
+pub enum Scanned {
+    Full,
+    On(usize),
+}
+
+// The facet is the least of its seam.
+fn is_seam(job: &[u8], n: usize, p: HeldPlace, values: &[i64; 48], known: &[bool; 16]) -> bool
+    requires { ⌜ OnCube (now job) n p (now values) (now known) ⌝ }
+    ensures { λ r. ⌜ r ≡ leastIn (now (job .entry)) (facetAs n p) ⌝ }
+{
+    let mut front = [0i64; 15];
+    if !cube::take_facet(n, p, values, known, &mut front) {
+        return false;
+    }
+    if !facets::crossed(n, &front, n) {
+        return false;
+    }
+    let mut back = [0i64; 15];
+    let _ = cube::take_facet(n, p, values, known, &mut back);
+    search::is_least(job, n, p, &mut front, &mut back)
+}
+
+// One facet: its place is written if it is the least of its seam and there is space.
+fn at_facet(
+    job: &[u8],
+    n: usize,
+    p: HeldPlace,
+    values: &[i64; 48],
+    known: &[bool; 16],
+    count: usize,
+    buffer: &mut [u8],
+) -> Scanned
+    requires { ⌜ (OnCube (now job) n p (now values) (now known)) × (count ≤ spaceFor n (now buffer)) ⌝ }
+    ensures { λ r. ⌜ ScannedIs n (now (buffer .entry)) count (keep (leastIn (now (job .entry))) (facetAs n p ∷ [])) (now (buffer .exit)) r ⌝ }
+{
+    if !is_seam(job, n, p, values, known) {
+        return Scanned::On(count);
+    }
+    let size = 3 * n;
+    if buffer.len() / size <= count {
+        return Scanned::Full;
+    }
+    places::write_place(buffer, count * size, n, p);
+    Scanned::On(count + 1)
+}
+
+// All facets with a lowest vertex.
+fn at_vertex(
+    job: &[u8],
+    n: usize,
+    v: Vertex,
+    table: &[u16; 75],
+    values: &[i64; 48],
+    known: &[bool; 16],
+    count: usize,
+    buffer: &mut [u8],
+) -> Scanned
+    requires { ⌜ (CubeAt (now job) n v (now values) (now known)) × ((now table ≡ chainArray) × (count ≤ spaceFor n (now buffer))) ⌝ }
+    ensures { λ r. ⌜ ScannedIs n (now (buffer .entry)) count (keep (leastIn (now (job .entry))) (map (facetOn (vertexAs n v)) (chains n))) (now (buffer .exit)) r ⌝ }
+{
+    let begin = chains::first(n);
+    let last = chains::count(n);
+    let mut found = count;
+    let mut j: usize = 0;
+    while j < last {
+        let p = chains::place_on(v, table[begin + j]);
+        let met = at_facet(job, n, p, values, known, found, buffer);
+        match met {
+            Scanned::Full => {
+                return Scanned::Full;
+            }
+            Scanned::On(next) => {
+                found = next;
+            }
+        }
+        j += 1;
+    }
+    Scanned::On(found)
+}
