@@ -30,7 +30,7 @@ use Rattle.columns.proofs.Counted.{remove-last}
 
 -- ---- the cells before any value is put in
 
-nought : (m i : ℕ) → getD (replicate m 0ℤ) i 0ℤ ≡ 0ℤ
+pub nought : (m i : ℕ) → getD (replicate m 0ℤ) i 0ℤ ≡ 0ℤ
 nought zero i = refl
 nought (suc m) zero = refl
 nought (suc m) (suc i) = nought m i

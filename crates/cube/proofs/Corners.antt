@@ -6,10 +6,11 @@ use Prim.Native.Nat.{ℕ, _+_, _*_, _-_, _^_, _%_, _≤_, _<_}
 use native.Mathlib.Omega.{arith}
 use lib.IntN.{ℤ}
 use lib.Dec.{lit≤}
-use lib.ListN.{length, getD, set, length-set}
+use lib.ListN.{length, getD, set, replicate, length-set}
 use lib.Seq.{getD-set-same, getD-set-other}
 use borrow.Author.Count.{below-none, below-more}
 use Rattle.exact.specs.Int.{0ℤ, 1ℤ}
+use Rattle.exact.proofs.SizeLaws.{size-pos, size-weaken}
 use Rattle.exact.proofs.CountFrom.{map-countFrom-ext}
 use Rattle.curves.specs.Grid.{Vertex, plus}
 use Rattle.curves.specs.Step.{column}
@@ -18,6 +19,7 @@ use Rattle.bits.specs.Axes.{Axes}
 use Rattle.bits.proofs.EachDimension.{each-axes}
 use Rattle.facets.specs.Cells.{columnAt, Cells}
 use Rattle.columns.specs.Found.{ValuesPut}
+use Rattle.columns.proofs.FacetColumns.{nought}
 use Rattle.cube.specs.Cube.{Within, ValuesCopied, knownAt, Corner, CornerPut, Cube}
 
 -- ---- one corner
@@ -108,3 +110,8 @@ corners-few = each-axes (λ n. 2 ^ n ≤ 16) (lit≤ tt) (lit≤ tt) (lit≤ tt)
 pub corners-all : {s : List ℕ} {n : ℕ} {v : Vertex} {values : List ℤ} {known : List Bool} {one : List ℤ} (m : ℕ) → 2 ^ n ≤ m
     → Corners s n v m values known one → Cube s n v values known one
 corners-all m l g = record { room = g .room; tests = g .tests; within = g .within; corner = λ q u. g .corner q (omega arith); left = g .left }
+
+-- ---- before any value is put in
+
+pub zeros-within : (n m : ℕ) → Within n (replicate m 0ℤ)
+zeros-within n m = record { entries = λ k. rw nought (size-weaken (size-pos 0) (omega arith)) }

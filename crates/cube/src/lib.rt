@@ -100,3 +100,16 @@ pub fn take_facet(
     }
     true
 }
+
+// Room for the values of a cube, and for its tests.
+pub fn no_values() -> [i64; 48]
+    ensures { λ r. ⌜ ((n : ℕ) → Within n r) × (length r ≡ 48) ⌝ }
+{
+    [0; 48]
+}
+
+pub fn none_known() -> [bool; 16]
+    ensures { λ r. ⌜ length r ≡ 16 ⌝ }
+{
+    [false; 16]
+}

@@ -35,13 +35,7 @@ fn over(verdict: Verdict) -> Sought
 }
 
 // One turn of a walk.
-fn seek(
-    job: &[u8],
-    n: usize,
-    start: HeldPlace,
-    here: Entered,
-    cells: &mut [i64; 15],
-) -> Sought
+fn seek(job: &[u8], n: usize, start: HeldPlace, here: Entered, cells: &mut [i64; 15]) -> Sought
     requires { ⌜ Walks (now job) n start here (now cells) ⌝ }
     ensures { λ r. ⌜ SoughtIs (now (job .entry)) n start (placeAs n (here .place)) r (now (cells .exit)) ⌝ }
 {
@@ -58,13 +52,7 @@ fn seek(
 }
 
 // One walk to its end: it meets no facet before its start's.
-fn rest_clear(
-    job: &[u8],
-    n: usize,
-    start: HeldPlace,
-    from: Entered,
-    cells: &mut [i64; 15],
-) -> bool
+fn rest_clear(job: &[u8], n: usize, start: HeldPlace, from: Entered, cells: &mut [i64; 15]) -> bool
     requires { ⌜ Walks (now job) n start from (now cells) ⌝ }
     ensures { λ r. ⌜ r ≡ clearFrom (now (job .entry)) (placeAs n start) (placeAs n (from .place)) ⌝ }
 {

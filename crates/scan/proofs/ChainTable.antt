@@ -67,10 +67,13 @@ module _ (n : ℕ) (a : Axes n) (j : ℕ) (l : j < chainCount n) where
   unfolding digitsUnder
   digits-under =
       let w = chainWord n j in
-      let r = and-right (ltb (w / 256) (2 ^ n)) (ltb (w / 16 % 16) (2 ^ n) && ltb (w % 16) (2 ^ n)) digits in
-      (ltb-true (w / 256) (2 ^ n) (and-left (ltb (w / 256) (2 ^ n)) (ltb (w / 16 % 16) (2 ^ n) && ltb (w % 16) (2 ^ n)) digits),
-      (ltb-true (w / 16 % 16) (2 ^ n) (and-left (ltb (w / 16 % 16) (2 ^ n)) (ltb (w % 16) (2 ^ n)) r),
-      ltb-true (w % 16) (2 ^ n) (and-right (ltb (w / 16 % 16) (2 ^ n)) (ltb (w % 16) (2 ^ n)) r)))
+      let r = and-right (ltb (w / 256) (2 ^ n)) (ltb (w / 16 % 16) (2 ^ n) && ltb (w % 16) (2 ^ n)) digits in (
+        ltb-true (w / 256) (2 ^ n) (and-left (ltb (w / 256) (2 ^ n)) (ltb (w / 16 % 16) (2 ^ n) && ltb (w % 16) (2 ^ n)) digits),
+        (
+          ltb-true (w / 16 % 16) (2 ^ n) (and-left (ltb (w / 16 % 16) (2 ^ n)) (ltb (w % 16) (2 ^ n)) r),
+          ltb-true (w % 16) (2 ^ n) (and-right (ltb (w / 16 % 16) (2 ^ n)) (ltb (w % 16) (2 ^ n)) r),
+        ),
+      )
 
   pub chain-formed : (eqb (suc (length (chainOf n (chainWord n j)))) n && chain n 0 (chainOf n (chainWord n j))) ≡ true
   unfolding isChain allFrom firstChain chainCount chainWord chainArray chainOf chain holds

@@ -25,11 +25,12 @@ module _ {A : Type 0} where
           → (l : List A) × (gathered F m ++ F m ≡ gathered F j ++ (F j ++ l))
       go true e ih = ([], ap (λ k. gathered F k ++ F k) (sym (eqb-true j m e)) ∙ ap (λ l. gathered F j ++ l) (sym (append-nil (F j))))
       go false e ih =
-          let r = ih (omega (arith, eqb-false j m e)) in
-          (r .0 ++ F m,
-          ap (λ l. l ++ F m) (r .1)
-          ∙ append-assoc (gathered F j) (F j ++ r .0) (F m)
-          ∙ ap (λ l. gathered F j ++ l) (append-assoc (F j) (r .0) (F m)))
+          let r = ih (omega (arith, eqb-false j m e)) in (
+            r .0 ++ F m,
+            ap (λ l. l ++ F m) (r .1)
+                ∙ append-assoc (gathered F j) (F j ++ r .0) (F m)
+                ∙ ap (λ l. gathered F j ++ l) (append-assoc (F j) (r .0) (F m)),
+          )
 
 -- ---- lists that are gathered
 

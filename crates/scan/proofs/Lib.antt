@@ -4,3 +4,4 @@ pub mod SeamTest
 pub mod Gathered
 pub mod Written
 pub mod AtVertex
+pub mod AllSeams

@@ -108,14 +108,15 @@ module _ {n : ℕ} {before : List ℕ} {count : ℕ} (t : Facet → Bool) (f : F
   pub facet-put : {after : List ℕ} → t f ≡ true → count < spaceFor n before → placeOk n (front f) ≡ true
       → after ≡ sets before (count * (3 * n)) (encodePlace (front f)) → ScannedIs n before count (keep t (f ∷ [])) after (Code.the-variants.On (count + 1))
   unfolding keep encodePlaces
-  facet-put {after} h l o e =
-      (subst (λ fs. Puts n before count fs after (count + 1)) (sym (ap (λ b. cond b (f ∷ []) []) h))
-      (record {
-        counted = refl;
-        bytes = ap length (append-nil (encodePlace (front f))) ∙ encode-length n (front f) o ∙ omega (arith, mul-suc (3 * n) 0, mul-zero (3 * n));
-        stored = e ∙ ap (sets before (count * (3 * n))) (sym (append-nil (encodePlace (front f))));
-      }),
-      omega arith)
+  facet-put {after} h l o e = (
+    subst (λ fs. Puts n before count fs after (count + 1)) (sym (ap (λ b. cond b (f ∷ []) []) h))
+        (record {
+          counted = refl;
+          bytes = ap length (append-nil (encodePlace (front f))) ∙ encode-length n (front f) o ∙ omega (arith, mul-suc (3 * n) 0, mul-zero (3 * n));
+          stored = e ∙ ap (sets before (count * (3 * n))) (sym (append-nil (encodePlace (front f))));
+        }),
+    omega arith,
+  )
 
 -- a place more has room in the buffer
 pub room : (n count : ℕ) (buffer : List ℕ) → count < spaceFor n buffer → count * (3 * n) + 3 * n ≤ length buffer

@@ -1,12 +1,11 @@
 -- A part of the scan, as the code answers it: the seams that it meets are written behind those that were met before, or there is no space for one of them.
 use Prim.Native.Nat.{ℕ, _+_, _*_, _/_, _≤_}
 use mathlib.Core.Path.{_≡_}
+use mathlib.Core.Bool.{Bool, true}
 use mathlib.Core.List.{List, _∷_, _++_, map}
 use lib.IntN.{ℤ}
-use mathlib.Core.Bool.{Bool, true}
 use lib.ListN.{length}
 use lib.Seq.{sets}
-use Rattle.exact.specs.Size.{Size}
 use Rattle.curves.specs.Grid.{Facet, facetOk}
 use Rattle.paper.specs.Operations.{encodePlaces}
 use Rattle.places.specs.Held.{vertexAs, facetAs, VertexSize}
@@ -14,7 +13,8 @@ use Rattle.places.specs.declared.HeldPlace.{HeldPlace}
 use Rattle.places.specs.declared.Vertex.{Vertex}
 use Rattle.job.specs.OpenJob.{JobOf}
 use Rattle.step.specs.Held.{heldLimit}
-use Rattle.cube.specs.Cube.{Cube, MasksUnder}
+use Rattle.facets.specs.Cells.{Cells}
+use Rattle.cube.specs.Cube.{Within, Cube, MasksUnder}
 use Rattle.seamlist.specs.Seams.{front}
 use Rattle.scan.specs.declared.Scanned as Code
 
@@ -57,3 +57,10 @@ pub record CubeAt (s : List ℕ) (n : ℕ) (v : Vertex) (values : List ℤ) (kno
   pub size : VertexSize heldLimit v
   pub one : List ℤ
   pub cube : Cube s n (vertexAs n v) values known one
+
+-- room for the values of a cube
+pub record CubeRoom (n : ℕ) (one values : List ℤ) (known : List Bool) : Type 0 where
+  pub left : Cells n one
+  pub within : Within n values
+  pub room : length values ≡ 48
+  pub tests : length known ≡ 16

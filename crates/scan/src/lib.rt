@@ -8,13 +8,18 @@ ghost use mathlib.Core.Path.{_≡_};
 ghost use mathlib.Core.List.{map, [], _∷_};
 ghost use Prim.Native.Nat.{_≤_};
 ghost use Rattle.curves.specs.Box.{keep, chains};
-ghost use Rattle.places.specs.Held.{vertexAs, facetAs};
+ghost use Rattle.paper.specs.Operations.{spaceOf};
+ghost use Rattle.seamlist.specs.JobSeams.{seamed, extentAndCount, seamsAfter};
+ghost use Rattle.seamlist.specs.Answers.{seamedAs};
+ghost use Rattle.places.specs.Held.{vertexAs, facetAs, VertexSize};
+ghost use Rattle.job.specs.OpenJob.{JobOf};
 ghost use Rattle.least.specs.Search.{leastIn};
 ghost use Rattle.scan.specs.Chains.{chainArray, facetOn};
-ghost use Rattle.scan.specs.Scanned.{spaceFor, ScannedIs, OnCube, CubeAt};
+ghost use Rattle.scan.specs.Scanned.{spaceFor, ScannedIs, OnCube, CubeAt, CubeRoom};
 use least::search;
 use places::HeldPlace;
 use places::Vertex;
+use seamlist::Seamed;
 
 // After a part of the scan: no space for one more seam, or the number of places written so far.
 pub enum Scanned {
@@ -95,4 +100,79 @@ fn at_vertex(
         j += 1;
     }
     Scanned::On(found)
+}
+
+// The values of the cube above a vertex, and then all facets with it as their lowest.
+fn scan_vertex(
+    job: &[u8],
+    n: usize,
+    v: Vertex,
+    table: &[u16; 75],
+    one: &mut [i64; 15],
+    values: &mut [i64; 48],
+    known: &mut [bool; 16],
+    count: usize,
+    buffer: &mut [u8],
+) -> Scanned
+    requires { ⌜ (JobOf n (now job)) × ((VertexSize 1024 v) × ((now table ≡ chainArray) × (count ≤ spaceFor n (now buffer)))) ⌝ }
+    requires { ⌜ CubeRoom n (now one) (now values) (now known) ⌝ }
+    ensures seams { λ r. ⌜ ScannedIs n (now (buffer .entry)) count (keep (leastIn (now (job .entry))) (map (facetOn (vertexAs n v)) (chains n))) (now (buffer .exit)) r ⌝ }
+    ensures room { λ r. ⌜ CubeRoom n (now (one .exit)) (now (values .exit)) (now (known .exit)) ⌝ }
+{
+    cube::fill(job, n, v, one, values, known);
+    at_vertex(job, n, v, table, values, known, count, buffer)
+}
+
+// Every seam, in a job that has opened.
+pub fn seams_in(job: &[u8], n: usize, buffer: &mut [u8]) -> Seamed
+    requires { ⌜ JobOf n (now job) ⌝ }
+    ensures answer { λ r. ⌜ seamedAs r ≡ extentAndCount (seamed (now (job .entry)) (spaceOf (now (job .entry)) (now (buffer .entry)))) ⌝ }
+    ensures written { λ r. ⌜ now (buffer .exit) ≡ seamsAfter (seamed (now (job .entry)) (spaceOf (now (job .entry)) (now (buffer .entry)))) (now (buffer .entry)) ⌝ }
+{
+    let frame = numbered::frame_of(job, n);
+    let size = frame.size;
+    let table = chains::table();
+    let mut one = [0i64; 15];
+    let mut values = cube::no_values();
+    let mut known = cube::none_known();
+    let mut count: usize = 0;
+    let mut i: usize = 0;
+    while i < size {
+        let v = numbered::vertex_at(frame, i);
+        let met = scan_vertex(
+            job,
+            n,
+            v,
+            &table,
+            &mut one,
+            &mut values,
+            &mut known,
+            count,
+            buffer,
+        );
+        match met {
+            Scanned::Full => {
+                return Seamed::Full((buffer.len() / (3 * n)) as u64);
+            }
+            Scanned::On(next) => {
+                count = next;
+            }
+        }
+        i += 1;
+    }
+    Seamed::Complete(count as u64)
+}
+
+// Every seam in a box: the refusal's number, or the count of places written to the buffer from its front on, one for each seam, and whether these are all. A
+// refusal touches nothing, and bytes past the last place written keep their values.
+pub fn seams(job: &[u8], buffer: &mut [u8]) -> Seamed
+    ensures answer { λ r. ⌜ seamedAs r ≡ extentAndCount (seamed (now (job .entry)) (spaceOf (now (job .entry)) (now (buffer .entry)))) ⌝ }
+    ensures written { λ r. ⌜ now (buffer .exit) ≡ seamsAfter (seamed (now (job .entry)) (spaceOf (now (job .entry)) (now (buffer .entry)))) (now (buffer .entry)) ⌝ }
+{
+    let refusal = job::open_refusal(job);
+    if refusal != 0 {
+        return Seamed::Refused(refusal);
+    }
+    let n = job::opened_dimension(job);
+    seams_in(job, n, buffer)
 }

@@ -7,20 +7,20 @@ use reference::seams_checks::{self as checks, Least};
 #[test]
 fn small_boxes() {
     let least = Least {
-        listed: [50, 300, 800],
-        runs: [40, 40, 300],
-        standing: [20, 80, 800],
-        orders: [1_500, 300, 500],
-        chains: [800, 150, 30],
+        listed: [60, 300, 800],
+        runs: [40, 40, 250],
+        standing: [25, 100, 700],
+        orders: [1_500, 250, 500],
+        chains: [700, 100, 20],
         lies: [1; 3],
-        starts: 600,
+        starts: 700,
     };
     checks::small_boxes(&Library, 80, 120_000, least);
 }
 
 #[test]
 fn every_space() {
-    checks::every_space(&Library, 81, 12_000, [1; 3]);
+    checks::every_space(&Library, 81, 12_000, [10, 50, 150]);
 }
 
 #[test]

@@ -324,7 +324,7 @@ pub fn larger_boxes(product: &impl Product, seed: u64, jobs: ByDimension) {
         println!("{n}: {facets} facets, the longest seam has {longest}");
         assert!(facets as u64 > 10 * jobs && longest > 25);
     }
-    met.assert_includes(&[0, 1, 2, 3, 4]);
+    met.assert_includes(&[0, 1, 2, 4]);
 }
 
 /// A line along an axis of a box that is as long as a box may be, and as narrow on the others; and

@@ -70,7 +70,7 @@ named! {
 }
 
 impl Run {
-    fn of(seam: &Seam) -> Run {
+    pub fn of(seam: &Seam) -> Run {
         match (seam.facets.len(), seam.edges, seam.limits) {
             (_, 0, 0) => Run::Closed,
             (1, 1, 1) => Run::AloneAtEdge,

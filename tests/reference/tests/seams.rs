@@ -76,11 +76,11 @@ fn seams_are_the_curves() {
 #[test]
 fn small_boxes() {
     let least = Least {
-        listed: [10, 100, 250],
-        runs: [20, 10, 90],
-        standing: [6, 25, 250],
-        orders: [500, 100, 150],
-        chains: [250, 50, 5],
+        listed: [20, 100, 250],
+        runs: [12, 10, 80],
+        standing: [8, 25, 200],
+        orders: [500, 80, 150],
+        chains: [200, 30, 4],
         lies: [1; 3],
         starts: 200,
     };
@@ -89,7 +89,7 @@ fn small_boxes() {
 
 #[test]
 fn every_space() {
-    checks::every_space(&Reference, 72, 4_000, [1; 3]);
+    checks::every_space(&Reference, 72, 4_000, [4, 6, 40]);
 }
 
 #[test]

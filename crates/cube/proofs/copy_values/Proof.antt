@@ -51,10 +51,11 @@ loop-less c = omega (arith, c .before .loop-test .taken)
 loop-again : tie.Need-loop-again Inv-loop μ-loop
 loop-again c =
     let start = c .before .before .before in
-    let loop = c .before .before .loop in
-    (omega (arith, c .before .loop-test .taken),
-    copying-next (start .pre .0 .0) (start .pre .0 .1 .0) (loop .k)
-    (omega (arith, c .before .loop-test .taken, start .pre .0 .0 .high, start .pre .1)) (loop .inv .1))
+    let loop = c .before .before .loop in (
+      omega (arith, c .before .loop-test .taken),
+      copying-next (start .pre .0 .0) (start .pre .0 .1 .0) (loop .k)
+          (omega (arith, c .before .loop-test .taken, start .pre .0 .0 .high, start .pre .1)) (loop .inv .1),
+    )
 
 same-length : tie.Need-same-length Inv-loop μ-loop
 same-length c = c .before .loop .inv .1 .count

@@ -25,9 +25,10 @@ put-corner-requires : tie.Need-put-corner-requires Inv-loop μ-loop
 put-corner-requires c κs =
     let pre = c .before .before .before .before .before .pre in
     let a = job-axes (pre .0 .0) in
-    let inv = c .before .before .before .loop .inv in
-    ((pre .0 .0, (pre .0 .1 .0, inv .1 .left)),
-    (omega (arith, c .before .before .loop-test .taken, corner-count _ a, corners-few _ a), (inv .1 .within, inv .1 .room)))
+    let inv = c .before .before .before .loop .inv in (
+      (pre .0 .0, (pre .0 .1 .0, inv .1 .left)),
+      (omega (arith, c .before .before .loop-test .taken, corner-count _ a, corners-few _ a), (inv .1 .within, inv .1 .room)),
+    )
 
 element-write-known : tie.Need-element-write-known Inv-loop μ-loop
 element-write-known c =
@@ -43,9 +44,10 @@ loop-less c = omega (arith, c .before .before .before .loop-test .taken)
 loop-again : tie.Need-loop-again Inv-loop μ-loop
 loop-again c =
     let a = job-axes (c .before .before .before .before .before .before .pre .0 .0) in
-    let loop = c .before .before .before .before .loop in
-    (omega (arith, c .before .before .before .loop-test .taken, corner-count _ a, corners-few _ a),
-    corners-next (loop .m) (omega (arith, c .before .before .before .loop-test .taken, corner-count _ a, corners-few _ a)) (loop .inv .1) (c .put-corner .ensures))
+    let loop = c .before .before .before .before .loop in (
+      omega (arith, c .before .before .before .loop-test .taken, corner-count _ a, corners-few _ a),
+      corners-next (loop .m) (omega (arith, c .before .before .before .loop-test .taken, corner-count _ a, corners-few _ a)) (loop .inv .1) (c .put-corner .ensures),
+    )
 
 returns : tie.Need-returns Inv-loop μ-loop
 returns c =

@@ -25,9 +25,10 @@ returns-2 c =
 copy-values-requires : tie.Need-copy-values-requires
 copy-values-requires c κs =
     let pre = c .before .before .before .before .before .before .before .before .before .before .pre in
-    let put = c .before .before .before .before .put-values .ensures in
-    ((job-axes (pre .0 .0), (record { entries = put .cells .entries }, pre .1 .1 .0)),
-    (omega (arith, put .cells .count), (omega (arith, pre .1), (omega (arith, put .cells .count), omega (arith, pre .1 .1 .1)))))
+    let put = c .before .before .before .before .put-values .ensures in (
+      (job-axes (pre .0 .0), (record { entries = put .cells .entries }, pre .1 .1 .0)),
+      (omega (arith, put .cells .count), (omega (arith, pre .1), (omega (arith, put .cells .count), omega (arith, pre .1 .1 .1)))),
+    )
 
 returns-3 : tie.Need-returns-3
 returns-3 c =

@@ -36,10 +36,13 @@ copy-values-requires c κs =
     let pre = c .before .before .before .before .before .before .before .pre in
     let a = pre .0 .1 .axes in
     let loop = c .before .before .before .before .before .before .loop in
-    let under = mask-under a (pre .0 .0) (loop .k) (omega (arith, c .before .before .before .before .before .loop-test .taken, a .high)) in
-    ((a, (pre .1 .0, record { entries = loop .inv .1 .within .entries })),
-    (omega (arith, c .before .before .before .before .mask-at .ensures, under, corners-few _ a, pre .1 .1 .0),
-    (omega (arith, c .before .before .before .before .before .loop-test .taken, a .high, loop .inv .1 .within .count), (omega (arith, pre .1 .1 .0), omega (arith, loop .inv .1 .within .count)))))
+    let under = mask-under a (pre .0 .0) (loop .k) (omega (arith, c .before .before .before .before .before .loop-test .taken, a .high)) in (
+      (a, (pre .1 .0, record { entries = loop .inv .1 .within .entries })),
+      (
+        omega (arith, c .before .before .before .before .mask-at .ensures, under, corners-few _ a, pre .1 .1 .0),
+        (omega (arith, c .before .before .before .before .before .loop-test .taken, a .high, loop .inv .1 .within .count), (omega (arith, pre .1 .1 .0), omega (arith, loop .inv .1 .within .count))),
+      ),
+    )
 
 add-k : tie.Need-add-k Inv-loop μ-loop
 add-k c = omega (arith, c .before .before .before .before .before .before .before .loop .inv .0, c .before .before .before .before .before .before .before .before .pre .0 .1 .axes .high)
@@ -49,9 +52,10 @@ loop-less c = omega (arith, c .before .before .before .before .before .before .l
 
 loop-again : tie.Need-loop-again Inv-loop μ-loop
 loop-again c =
-    let loop = c .before .before .before .before .before .before .before .loop in
-    (omega (arith, c .before .before .before .before .before .before .loop-test .taken),
-    taking-next (loop .k) (c .before .before .before .before .before .mask-at .ensures) (not-false _ (c .before .before .before .if1 .left)) (loop .inv .1) (c .copy-values .ensures))
+    let loop = c .before .before .before .before .before .before .before .loop in (
+      omega (arith, c .before .before .before .before .before .before .loop-test .taken),
+      taking-next (loop .k) (c .before .before .before .before .before .mask-at .ensures) (not-false _ (c .before .before .before .if1 .left)) (loop .inv .1) (c .copy-values .ensures),
+    )
 
 returns-2 : tie.Need-returns-2 Inv-loop μ-loop
 returns-2 c s one cube =

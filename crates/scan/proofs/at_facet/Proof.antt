@@ -41,9 +41,10 @@ mul-write-place c =
 write-place-requires : tie.Need-write-place-requires
 unfolding spaceFor
 write-place-requires c κs =
-    let a = c .before .before .before .before .before .before .args in
-    (held-fits (seam-held (c .before .before .before .before .before .before .pre .0) (sym (c .before .before .before .is-seam .ensures) ∙ not-false _ (c .before .before .if1 .left))),
-    room (a .n) (a .count) (a .buffer .now) (c .before .if2 .left))
+    let a = c .before .before .before .before .before .before .args in (
+      held-fits (seam-held (c .before .before .before .before .before .before .pre .0) (sym (c .before .before .before .is-seam .ensures) ∙ not-false _ (c .before .before .if1 .left))),
+      room (a .n) (a .count) (a .buffer .now) (c .before .if2 .left),
+    )
 
 add-t12 : tie.Need-add-t12
 unfolding spaceFor

@@ -48,9 +48,10 @@ mul-place-on c = omega (arith, element-copy-out-place-on c)
 at-facet-requires : tie.Need-at-facet-requires Inv-loop μ-loop
 at-facet-requires c κs =
     let start = c .before .before .before .before .before .before .before .before .before in
-    let inv = c .before .before .before .before .loop .inv in
-    (on-cube (start .pre .0) (inside (c .before .before .before)) (word-is _ _ (start .pre .1 .0) (c .before .before .before .before .before .before .first .ensures)) (c .before .place-on .ensures),
-    omega (arith, inv .1 .1, same-space (inv .1 .0)))
+    let inv = c .before .before .before .before .loop .inv in (
+      on-cube (start .pre .0) (inside (c .before .before .before)) (word-is _ _ (start .pre .1 .0) (c .before .before .before .before .before .before .first .ensures)) (c .before .place-on .ensures),
+      omega (arith, inv .1 .1, same-space (inv .1 .0)),
+    )
 
 -- what at_facet answers, of what is met at chain j
 answered :
@@ -101,10 +102,11 @@ loop-again : tie.Need-loop-again Inv-loop μ-loop
 loop-again c =
     let a = c .before .before .before .before .before .before .before .before .before .before .before .before .before .before .before .args in
     let loop = c .before .before .before .before .before .before .before .before .before .before .loop in
-    let F = metAt (leastIn (a .job .now)) (a .n) (vertexAs (a .n) (a .v)) in
-    (omega (arith, c .before .before .before .before .before .before .before .before .before .loop-test .taken),
-    part-on F (loop .j) (loop .inv .1 .0)
-    (subst (λ r. ScannedIs (a .n) (loop .buffer) (loop .found) (F (loop .j)) (c .before .before .before .before .before .at-facet .last .1 .1 .1 .1 .1 .1 .0) r) (c .before .met .given .1) (answered (c .before .before .before .before .before))))
+    let F = metAt (leastIn (a .job .now)) (a .n) (vertexAs (a .n) (a .v)) in (
+      omega (arith, c .before .before .before .before .before .before .before .before .before .loop-test .taken),
+      part-on F (loop .j) (loop .inv .1 .0)
+          (subst (λ r. ScannedIs (a .n) (loop .buffer) (loop .found) (F (loop .j)) (c .before .before .before .before .before .at-facet .last .1 .1 .1 .1 .1 .1 .0) r) (c .before .met .given .1) (answered (c .before .before .before .before .before))),
+    )
 
 same-length-2 : tie.Need-same-length-2 Inv-loop μ-loop
 same-length-2 c = same-size (c .before .loop .inv .1 .0)

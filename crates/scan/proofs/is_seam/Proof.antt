@@ -39,9 +39,10 @@ is-least-requires c κs =
     let o = c .before .before .before .before .before .before .before .before .before .before .before .pre in
     let first = c .before .before .before .before .before .before .before .before .take-facet .ensures _ _ (o .cube) in
     let second = c .before .before .take-facet2 .ensures _ _ (o .cube) in
-    let known = not-false _ (c .before .before .before .before .before .before .before .if1 .left) in
-    ((crossed-held o first known (sym (c .before .before .before .before .before .crossed .ensures) ∙ not-false _ (c .before .before .before .before .if2 .left)), o .side),
-    (taken-holds o first known, taken-holds o second (same-taken first second known)))
+    let known = not-false _ (c .before .before .before .before .before .before .before .if1 .left) in (
+      (crossed-held o first known (sym (c .before .before .before .before .before .crossed .ensures) ∙ not-false _ (c .before .before .before .before .if2 .left)), o .side),
+      (taken-holds o first known, taken-holds o second (same-taken first second known)),
+    )
 
 pub is-seam-spec : {M : Type 1} → statement M
 is-seam-spec =

@@ -12,7 +12,7 @@ use super::random::Random;
 use super::small_cutter::{ellipsoid, squares};
 use crate::build::{gathered, power_of, product, term, within_limits, Parts};
 use crate::crossed::{sum, Term};
-use crate::grid::{chains, has, Facet, Place, Vertex};
+use crate::grid::{chains, has, Facet, Masks, Place, Vertex};
 use crate::limits::{LARGEST_COEFFICIENT, LARGEST_COORDINATE, MOST};
 use crate::named;
 
@@ -302,15 +302,21 @@ fn sheets(r: &mut Random, n: usize, size: Size, bias: u8) -> Surfaces {
     }
 }
 
-/// A facet of the box, often at the high ends.
-fn facet_in(r: &mut Random, ends: &Ends) -> Facet {
+/// A facet of the box, often at the high ends; once in four times in the face at the high end of an
+/// axis.
+fn facet_in(r: &mut Random, ends: &Ends, axis: usize) -> Facet {
     let n = ends.len();
-    let masks = r.pick(chains(n));
-    let mut facet = Facet { n, lowest: [0; MOST], masks };
+    let in_face = r.once_in(4);
+    let may_have = |masks: &&Masks| !in_face || !has(masks[n - 2], axis);
+    let some: Vec<Masks> = chains(n).iter().filter(may_have).copied().collect();
+    let mut facet = Facet { n, lowest: [0; MOST], masks: r.pick(&some) };
     for (k, &(low, high)) in ends.iter().enumerate() {
-        let highest = high - (facet.mask(n - 1) >> k & 1) as i64;
+        let highest = high - has(facet.mask(n - 1), k + 1) as i64;
         let anywhere = r.between(low, highest);
         facet.lowest[k] = r.pick(&[highest, anywhere]);
+    }
+    if in_face {
+        facet.lowest[axis - 1] = ends[axis - 1].1;
     }
     facet
 }
@@ -345,7 +351,7 @@ fn forms_crossing(r: &mut Random, facet: &Facet, bias: u8) -> Vec<Vec<Term>> {
 fn alone(r: &mut Random, n: usize, size: Size, bias: u8) -> Surfaces {
     loop {
         let (ends, far) = far_on_one_axis(r, n, size);
-        let facet = facet_in(r, &ends);
+        let facet = facet_in(r, &ends, far);
         let missing = axes_of(!facet.mask(n - 1) & ((1 << n) - 1));
         let steps = (1..n).map(|k| axes_of(facet.mask(k) & !facet.mask(k - 1)));
         let plane = match steps.into_iter().find(|axes| axes.len() == 2) {
@@ -463,4 +469,70 @@ pub fn any_job_in_small_box(r: &mut Random) -> AnyJob {
     let parts = cut(r, parts, Size::Small, &kept);
     let (bytes, change, damages) = any_change(r, &parts);
     AnyJob { bytes, made_in: parts.n, made, change, damages }
+}
+
+#[cfg(test)]
+mod tests {
+    use super::*;
+    use crate::job::open;
+    use crate::limits::DIMENSIONS;
+    use crate::seams::seams_of;
+    use crate::seams_met::Run;
+    use crate::tally::{Named, Tally};
+
+    /// Jobs of each kind open in each dimension, in boxes of both sizes, and reach what the kind is
+    /// for.
+    #[test]
+    fn each_kind_reaches_its_aim() {
+        for kind in Outline::all() {
+            let (mut runs, mut counts) = (Tally::default(), Tally::default());
+            for n in DIMENSIONS {
+                let mut r = Random::new(68);
+                for k in 0..600 {
+                    let size = if k % 40 == 0 { Size::Large } else { Size::Small };
+                    let parts = outlines_of(&mut r, n, kind, size);
+                    let seams = seams_of(&open(&parts.bytes()).expect("a valid job"));
+                    seams.iter().for_each(|seam| runs.count(n, Run::of(seam)));
+                    counts.count(n, seams.len().min(2));
+                }
+            }
+            println!("{kind:?}");
+            runs.assert_often(
+                5,
+                match kind {
+                    Outline::AroundVertices | Outline::Ridge => &[Run::Closed, Run::EdgeToEdge],
+                    Outline::Sheets => &[Run::EdgeToEdge, Run::AloneAtEdge, Run::AloneInside],
+                    Outline::IntoLimit => &[Run::EdgeToEdge, Run::EdgeToLimit, Run::AloneAtEdge],
+                    _ => &[Run::EdgeToEdge],
+                },
+            );
+            match kind {
+                Outline::Ragged => runs.assert_often(3, &[Run::Closed]),
+                Outline::Alone => runs.assert_often(100, &[Run::AloneAtEdge, Run::AloneInside]),
+                _ => {}
+            }
+            // Several seams in a box.
+            match kind {
+                Outline::IntoLimit | Outline::AroundLimit => counts.assert_includes(&[0, 1]),
+                Outline::Sheets | Outline::Alone => counts.assert_includes(&[1, 2]),
+                _ => counts.assert_often(10, &[0, 1, 2]),
+            }
+        }
+    }
+
+    /// Jobs in small boxes open as often as others, and few have a box that a change made larger.
+    #[test]
+    fn small_boxes_stay_small() {
+        let mut r = Random::new(69);
+        let mut met = Tally::default();
+        for _ in 0..20_000 {
+            let job = any_job_in_small_box(&mut r);
+            let longest = open(&job.bytes).map(|opened| {
+                opened.ends.iter().map(|(low, high)| high - low).max().expect("an axis")
+            });
+            met.count(job.n(), longest.map(|longest| longest <= 6));
+        }
+        met.assert_often(2_000, &[Ok(true)]);
+        met.assert_includes(&[Ok(false), Err(6)]);
+    }
 }

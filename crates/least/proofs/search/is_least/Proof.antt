@@ -139,9 +139,11 @@ loop-less c =
     let turn = c .before .before .before .before .before .before .before .before .before .before .before .before .before .before .before .turned in
     let after = c .before .before .before .before .before .before .before .before .seek .last .1 .1 .1 .1 .0 in
     let others = c .before .before .before .seek2 .last .1 .1 .1 .1 .0 in
-    omega (arith,
+    omega (
+      arith,
       subst (λ r. SoughtIs (a .job .now) (a .n) (a .p) (placeAs (a .n) (loop .ahead .place)) r after) (c .before .before .before .before .before .before .first .given .1) (c .before .before .before .before .before .before .before .before .seek .ensures) .0 .shorter,
-      subst (λ r. SoughtIs (a .job .now) (a .n) (turn .result) (placeAs (a .n) (loop .behind .place)) r others) (c .before .second .given .1) (c .before .before .before .seek2 .ensures) .0 .shorter)
+      subst (λ r. SoughtIs (a .job .now) (a .n) (turn .result) (placeAs (a .n) (loop .behind .place)) r others) (c .before .second .given .1) (c .before .before .before .seek2 .ensures) .0 .shorter,
+    )
 
 loop-again : tie.Need-loop-again Inv-loop μ-loop
 loop-again c =
@@ -149,9 +151,10 @@ loop-again c =
     let loop = c .before .before .before .before .before .before .before .before .before .before .loop in
     let turn = c .before .before .before .before .before .before .before .before .before .before .before .before .before .before .before .turned in
     let after = c .before .before .before .before .before .before .before .before .seek .last .1 .1 .1 .1 .0 in
-    let others = c .before .before .before .seek2 .last .1 .1 .1 .1 .0 in
-    (way-on (loop .inv .0) (subst (λ r. SoughtIs (a .job .now) (a .n) (a .p) (placeAs (a .n) (loop .ahead .place)) r after) (c .before .before .before .before .before .before .first .given .1) (c .before .before .before .before .before .before .before .before .seek .ensures)),
-    way-on (loop .inv .1) (subst (λ r. SoughtIs (a .job .now) (a .n) (turn .result) (placeAs (a .n) (loop .behind .place)) r others) (c .before .second .given .1) (c .before .before .before .seek2 .ensures)))
+    let others = c .before .before .before .seek2 .last .1 .1 .1 .1 .0 in (
+      way-on (loop .inv .0) (subst (λ r. SoughtIs (a .job .now) (a .n) (a .p) (placeAs (a .n) (loop .ahead .place)) r after) (c .before .before .before .before .before .before .first .given .1) (c .before .before .before .before .before .before .before .before .seek .ensures)),
+      way-on (loop .inv .1) (subst (λ r. SoughtIs (a .job .now) (a .n) (turn .result) (placeAs (a .n) (loop .behind .place)) r others) (c .before .second .given .1) (c .before .before .before .seek2 .ensures)),
+    )
 
 pub is-least-spec : {M : Type 1} → statement M
 is-least-spec =
