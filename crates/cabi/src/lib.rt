@@ -8,6 +8,7 @@ use numbers::JudgeAnswer;
 use numbers::OpenAnswer;
 use numbers::PenAnswer;
 use numbers::PointAnswer;
+use numbers::SeamsAnswer;
 use numbers::StepAnswer;
 use numbers::SumAnswer;
 use numbers::TraceAnswer;
@@ -22,7 +23,8 @@ ghost use Rattle.paper.specs.RunningSum.{runningSummed};
 ghost use Rattle.grounds.specs.Judged.{judgedBy};
 ghost use Rattle.small.specs.Small.{smallOpened, smallTraced};
 ghost use Rattle.numbers.specs.Numbers.{openNumbers, bodyEntry, bodyNumbers, judgeNumbers, groundNumbers, pointNumbers, stepNumbers};
-ghost use Rattle.numbers.specs.Numbers.{traceNumbers, isSet, penNumbers, sumNumbers};
+ghost use Rattle.seamlist.specs.JobSeams.{seamed, extentAndCount, seamsAfter};
+ghost use Rattle.numbers.specs.Numbers.{traceNumbers, seamsNumbers, isSet, penNumbers, sumNumbers};
 
 // Open.
 #[no_mangle]
@@ -94,6 +96,15 @@ pub extern "C" fn gethwapiko_trace(job: &[u8], buffer: &mut [u8]) -> TraceAnswer
     ensures written { λ r. ⌜ now (buffer .exit) ≡ bufferAfter (traced (now (job .entry)) (spaceOf (now (job .entry)) (now (buffer .entry)))) (now (buffer .entry)) ⌝ }
 {
     numbers::trace_numbers(trace::trace(job, buffer))
+}
+
+// Every seam in the box: one place for each is written to the buffer from its front on; a refusal touches nothing.
+#[no_mangle]
+pub extern "C" fn gethwapiko_seams(job: &[u8], buffer: &mut [u8]) -> SeamsAnswer
+    ensures answer { λ r. ⌜ r ≡ seamsNumbers (extentAndCount (seamed (now (job .entry)) (spaceOf (now (job .entry)) (now (buffer .entry))))) ⌝ }
+    ensures written { λ r. ⌜ now (buffer .exit) ≡ seamsAfter (seamed (now (job .entry)) (spaceOf (now (job .entry)) (now (buffer .entry)))) (now (buffer .entry)) ⌝ }
+{
+    numbers::seams_numbers(scan::seams(job, buffer))
 }
 
 // The small bench cutter's Open.

@@ -22,6 +22,8 @@ use Rattle.numbers.specs.declared.JudgeAnswer.{JudgeAnswer}
 use Rattle.numbers.specs.declared.GroundAnswer.{GroundAnswer}
 use Rattle.numbers.specs.declared.PointAnswer.{PointAnswer}
 use Rattle.numbers.specs.declared.StepAnswer.{StepAnswer}
+use Rattle.seamlist.specs.JobSeams.{Extent, complete, full}
+use Rattle.numbers.specs.declared.SeamsAnswer.{SeamsAnswer}
 use Rattle.numbers.specs.declared.TraceAnswer.{TraceAnswer}
 use Rattle.numbers.specs.declared.PenAnswer.{PenAnswer}
 use Rattle.numbers.specs.declared.SumAnswer.{SumAnswer}
@@ -130,6 +132,16 @@ verdictNumber full = 3
 unfoldable pub traceNumbers : Answer (Verdict Stop × ℕ) → TraceAnswer
 traceNumbers (refused k) = record { refusal = k; verdict = 0; count = 0 }
 traceNumbers (answered t) = record { refusal = 0; verdict = verdictNumber (t .0); count = t .1 }
+
+-- ---- the seams
+
+unfoldable pub extentNumber : Extent → ℕ
+extentNumber complete = 0
+extentNumber full = 1
+
+unfoldable pub seamsNumbers : Answer (Extent × ℕ) → SeamsAnswer
+seamsNumbers (refused k) = record { refusal = k; full = 0; count = 0 }
+seamsNumbers (answered r) = record { refusal = 0; full = extentNumber (r .0); count = r .1 }
 
 -- a mark is set by any number but 0
 unfoldable pub isSet : ℕ → Bool

@@ -11,12 +11,15 @@ use paper::Pointed;
 use paper::Stepped;
 use paper::Summed;
 use paper::Traced;
+use seamlist::Seamed;
 use paper::Verdict;
 ghost use mathlib.Core.Path.{_≡_};
 ghost use Rattle.paper.specs.Answers.{openedAs, judgedAs, pointedAs, steppedAs, verdictAs, tracedAs, summedAs};
 ghost use Rattle.paper.specs.Pen.{pennedAs};
 ghost use Rattle.grounds.specs.Judged.{judgedByAs};
 ghost use Rattle.numbers.specs.Numbers.{openNumbers, judgeNumbers, withoutPowers, withPowers, groundNumbers, pointNumbers};
+ghost use Rattle.seamlist.specs.Answers.{seamedAs};
+ghost use Rattle.numbers.specs.Numbers.{seamsNumbers};
 ghost use Rattle.numbers.specs.Numbers.{withoutPlace, stepNumbers, verdictNumber, traceNumbers, withoutPoint, penNumbers, sumNumbers};
 
 #[repr(C)]
@@ -85,6 +88,13 @@ pub struct StepAnswer {
 pub struct TraceAnswer {
     pub refusal: u64,
     pub verdict: u64,
+    pub count: u64,
+}
+
+// The seams: 1 full or 0 complete, and the count of places written.
+pub struct SeamsAnswer {
+    pub refusal: u64,
+    pub full: u64,
     pub count: u64,
 }
 
@@ -295,6 +305,29 @@ pub fn trace_numbers(answer: Traced) -> TraceAnswer
         Traced::Listed(verdict, count) => TraceAnswer {
             refusal: 0,
             verdict: verdict_number(verdict),
+            count,
+        },
+    }
+}
+
+// The seams.
+pub fn seams_numbers(answer: Seamed) -> SeamsAnswer
+    ensures { λ r. ⌜ r ≡ seamsNumbers (seamedAs answer) ⌝ }
+{
+    match answer {
+        Seamed::Refused(refusal) => SeamsAnswer {
+            refusal,
+            full: 0,
+            count: 0,
+        },
+        Seamed::Complete(count) => SeamsAnswer {
+            refusal: 0,
+            full: 0,
+            count,
+        },
+        Seamed::Full(count) => SeamsAnswer {
+            refusal: 0,
+            full: 1,
             count,
         },
     }
