@@ -3,7 +3,7 @@
  * Each function answers exactly what the definition of document 01 and of the requests says, for every input; the proof is in crates/cabi, and that
  * of the structs' numbers in crates/numbers.
  * Bytes are handed over as a pointer and a count, and the pointer must be good for that many bytes. Nothing is kept between calls,
- * nothing is allocated, and only the buffer of a trace is written; it must not overlap the job.
+ * nothing is allocated, and only the buffer of a trace or of the seams is written; it must not overlap the job.
  *
  * The field `refusal` is 0 or the number of the refusal; beside a refusal every other field is 0.
  * A field that an answer does not use is 0: terms2, z and mask2 in dimension 2, terms3, w and mask3 below dimension 4, the place of an
@@ -94,6 +94,12 @@ typedef struct {
     uint64_t count;   /* the places written, 3n bytes each */
 } TraceAnswer;
 
+typedef struct {
+    uint64_t refusal;
+    uint64_t full;  /* 1 full: one more seam remains and no space does; 0 complete */
+    uint64_t count; /* the places written, 3n bytes each, one for each seam */
+} SeamsAnswer;
+
 enum { GETHWAPIKO_LIFT = 0, GETHWAPIKO_DRAW = 1, GETHWAPIKO_CLOSE = 2 };
 
 typedef struct {
@@ -135,6 +141,13 @@ StepAnswer gethwapiko_step(const uint8_t *job, size_t job_length, const uint8_t 
  * loop: the next facet is the start's; edge, limit: as in Step; full: no space for the next place.
  * Bytes past the last place written keep their values, and a refusal (9, 10, 11 for the start) touches nothing. */
 TraceAnswer gethwapiko_trace(const uint8_t *job, size_t job_length, uint8_t *buffer, size_t buffer_length);
+
+/* Every seam in the box. A seam is a crossed facet in the box, with readable values, and all that are joined to it, even if it stands by itself. Its
+ * place is its least facet with side 0: lowest vertex first, coordinates as whole numbers, axis 1 weighing most, then the masks in order. The places
+ * are written to the buffer from its front, in that order, each seam once; space is counted, and bytes past the last place keep their values, as in
+ * Trace. The job's start counts only for its form: refusals 1 to 8 alone, and a refusal touches nothing. Every facet of the box is judged, which for the
+ * largest box takes some tens of milliseconds in dimension 2, seconds in dimension 3 at 64 units an axis, and far longer in larger boxes. */
+SeamsAnswer gethwapiko_seams(const uint8_t *job, size_t job_length, uint8_t *buffer, size_t buffer_length);
 
 /* The small bench cutter, whose controller takes box ends from -64 to 64 and at most 16 terms a polynomial, in dimensions 2, 3 and 4. Each function
  * answers refusal 17, or exactly what the one without `small` in its name answers, the buffer included; 17 exactly if that one opens the job and a

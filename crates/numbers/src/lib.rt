@@ -92,6 +92,7 @@ pub struct TraceAnswer {
 }
 
 // The seams: 1 full or 0 complete, and the count of places written.
+#[repr(C)]
 pub struct SeamsAnswer {
     pub refusal: u64,
     pub full: u64,

@@ -12,7 +12,7 @@ fn small_boxes() {
         standing: [25, 100, 700],
         orders: [1_500, 250, 500],
         chains: [700, 100, 20],
-        lies: [1; 3],
+        lies: [100, 40, 40],
         starts: 700,
     };
     checks::small_boxes(&Library, 80, 120_000, least);

@@ -78,10 +78,10 @@ fn small_boxes() {
     let least = Least {
         listed: [20, 100, 250],
         runs: [12, 10, 80],
-        standing: [8, 25, 200],
+        standing: [5, 25, 200],
         orders: [500, 80, 150],
         chains: [200, 30, 4],
-        lies: [1; 3],
+        lies: [25, 10, 10],
         starts: 200,
     };
     checks::small_boxes(&Reference, 71, 40_000, least);
