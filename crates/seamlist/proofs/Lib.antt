@@ -3,6 +3,7 @@ pub mod Room
 pub mod LeastTest
 pub mod BoxIndex
 pub mod Chains
+pub mod RoomBound
 pub mod Rising
 pub mod FacetOrder
 pub mod BoxRises

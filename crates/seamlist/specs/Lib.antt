@@ -3,3 +3,4 @@ pub mod Seams
 pub mod JobSeams
 pub mod Answers
 pub mod BoxIndex
+pub mod SeamText

@@ -39,7 +39,7 @@ fn put_mask(buffer: &mut [u8], at: usize, mask: u64) -> usize
 // ---- parts of a place's line
 
 // The first m of three numbers.
-fn put_numbers(buffer: &mut [u8], at: usize, m: usize, u: i64, v: i64, w: i64) -> usize
+pub fn put_numbers(buffer: &mut [u8], at: usize, m: usize, u: i64, v: i64, w: i64) -> usize
     requires { ⌜ (1 ≤ m) × (at + 66 ≤ length (now buffer)) ⌝ }
     ensures { λ r. ⌜ Writes 66 (blankNumbers (take m (u ∷ v ∷ w ∷ []))) at (now (buffer .entry)) (now (buffer .exit)) r ⌝ }
 {
@@ -55,7 +55,14 @@ fn put_numbers(buffer: &mut [u8], at: usize, m: usize, u: i64, v: i64, w: i64) -
 }
 
 // The first k of three masks.
-fn put_masks(buffer: &mut [u8], at: usize, k: usize, mask1: u64, mask2: u64, mask3: u64) -> usize
+pub fn put_masks(
+    buffer: &mut [u8],
+    at: usize,
+    k: usize,
+    mask1: u64,
+    mask2: u64,
+    mask3: u64,
+) -> usize
     requires { ⌜ (1 ≤ k) × (at + 63 ≤ length (now buffer)) ⌝ }
     ensures { λ r. ⌜ Writes 63 (blankNumbers (take k (pos mask1 ∷ pos mask2 ∷ pos mask3 ∷ []))) at (now (buffer .entry)) (now (buffer .exit)) r ⌝ }
 {

@@ -228,6 +228,7 @@ fn lies(job: &Job, seam: &Seam, last_crossed: Option<Facet>) -> Vec<Lies> {
         let (axis, x) = (k + 1, least.lowest[k]);
         let reaches = |facet: &Facet| facet.vertices()[job.n - 1][k] == LARGEST_COORDINATE;
         let is_far = high == LARGEST_COORDINATE;
+        assert!(is_alone || x < high, "a seam of several facets begins below each high end");
         cases.extend([
             (x == low, Lies::Low(axis)),
             (x == high, Lies::High(axis)),
