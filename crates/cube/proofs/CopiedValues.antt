@@ -20,7 +20,7 @@ use Rattle.bits.proofs.EachDimension.{each-axes}
 use Rattle.facets.specs.Cells.{columnAt, entryLimit}
 use Rattle.cube.specs.Cube.{Within, ValuesCopied}
 
-entry-word : (n : ℕ) → Axes n → entryLimit n ≤ 2 ^ 63 - 1
+pub entry-word : (n : ℕ) → Axes n → entryLimit n ≤ 2 ^ 63 - 1
 unfolding entryLimit readableLimit
 entry-word = each-axes (λ n. entryLimit n ≤ 2 ^ 63 - 1) (lit≤ tt) (lit≤ tt) (lit≤ tt)
 

@@ -2,3 +2,5 @@
 pub mod CopiedValues
 pub mod Corners
 pub mod TakenFacets
+pub mod Sides
+pub mod OneSidedFacets

@@ -76,14 +76,14 @@ every-both φ (u ∷ vs) =
 module _ {s : List ℕ} {n : ℕ} {p : HeldPlace} {values : List ℤ} {known : List Bool} {one : List ℤ} (a : Axes n) (u : MasksUnder n p)
     (c : Cube s n (vertexAs n (p .low)) values known one) where
   -- vertex k of the facet
-  abbrev vertex : ℕ → Grid.Vertex
+  abbrev pub vertex : ℕ → Grid.Vertex
   vertex k = vertexAt n (p .low) (p .mask1) (p .mask2) (p .mask3) 0 k
 
-  known-is : (k : ℕ) → k < 4 → getD known (maskOf p k) false ≡ knownAt s (vertex k)
+  pub known-is : (k : ℕ) → k < 4 → getD known (maskOf p k) false ≡ knownAt s (vertex k)
   unfolding vertexAt
   known-is k l = c .corner (maskOf p k) (mask-under a u k l) .test
 
-  all-known : every (knownAt s) (vertexList n (p .low) (p .mask1) (p .mask2) (p .mask3) 0 n) ≡ readableAll (fieldOf s) (facetVertices (facetAs n p))
+  pub all-known : every (knownAt s) (vertexList n (p .low) (p .mask1) (p .mask2) (p .mask3) 0 n) ≡ readableAll (fieldOf s) (facetVertices (facetAs n p))
   unfolding knownAt
   all-known = ap (every (knownAt s)) (facet-list n a p 0) ∙ every-both (fieldOf s) (facetVertices (facetAs n p))
 

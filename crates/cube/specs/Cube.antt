@@ -1,11 +1,13 @@
 -- The values at the corners of the unit cube above a vertex, as the code holds them: those of corner v + m, m a mask, stand where a simplex has those of
 -- its vertex m (`columnAt`), and a test says of each corner whether it lies in the box with readable values. s are the job's bytes, n its dimension.
-use Prim.Native.Nat.{ℕ, _+_, _*_, _-_, _^_, _≤_, _<_}
+use Prim.Native.Nat.{ℕ, suc, _+_, _*_, _-_, _^_, _≤_, _<_}
 use mathlib.Core.Path.{_≡_}
 use mathlib.Core.Bool.{Bool, true, false, _&&_}
+use mathlib.Core.Logic.{_⊎_}
 use mathlib.Core.List.{List}
 use lib.IntN.{ℤ}
 use lib.ListN.{length, getD}
+use lib.Signed.{leZ}
 use Rattle.exact.specs.Int.{0ℤ}
 use Rattle.exact.specs.Size.{Size}
 use Rattle.curves.specs.Grid.{Vertex, Facet, plus, facetVertices}
@@ -62,3 +64,19 @@ pub record FacetTaken (s : List ℕ) (n : ℕ) (f : Facet) (r : Bool) (after : L
   pub test : r ≡ readableAll (fieldOf s) (facetVertices f)
   pub within : Cells n after
   pub columns : r ≡ true → facetColumns n after n ≡ columns (fieldOf s) (facetVertices f)
+
+-- value k at corner m
+unfoldable pub valueAt : List ℤ → ℕ → ℕ → ℤ
+valueAt values k m = getD values (stride * m + k) 0ℤ
+
+-- value k is above 0 at no corner that is known, or at each of them
+abbrev pub OneSide : ℕ → ℕ → List ℤ → List Bool → Type 0
+OneSide n k values known =
+    ((m : ℕ) → m < 2 ^ n → getD known m false ≡ true → leZ (valueAt values k m) 0ℤ ≡ true)
+    ⊎ ((m : ℕ) → m < 2 ^ n → getD known m false ≡ true → leZ (valueAt values k m) 0ℤ ≡ false)
+
+-- some polynomial has one side only at the corners that are known
+pub record OneSided (n : ℕ) (values : List ℤ) (known : List Bool) : Type 0 where
+  pub polynomial : ℕ
+  pub is-one : suc polynomial < n
+  pub side : OneSide n polynomial values known

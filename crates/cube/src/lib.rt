@@ -2,15 +2,18 @@
 
 ghost use mathlib.Core.Path.{_≡_};
 ghost use Prim.Native.Nat.{ℕ, _+_, _*_, _≤_, _<_};
+ghost use mathlib.Core.Bool.{true, false, not, _&&_};
 ghost use mathlib.Core.List.{List};
 ghost use lib.IntN.{ℤ};
 ghost use lib.ListN.{length};
+ghost use lib.Signed.{leZ};
+ghost use Rattle.exact.specs.Int.{0ℤ};
 ghost use Rattle.bits.specs.Axes.{Axes};
 ghost use Rattle.places.specs.Held.{vertexAs, facetAs, VertexSize};
 ghost use Rattle.job.specs.OpenJob.{JobOf};
 ghost use Rattle.values.specs.Moves.{moveLimit};
 ghost use Rattle.facets.specs.Cells.{Cells};
-ghost use Rattle.cube.specs.Cube.{Within, ValuesCopied, CornerPut, Cube, FacetTaken, MasksUnder};
+ghost use Rattle.cube.specs.Cube.{Within, ValuesCopied, CornerPut, Cube, FacetTaken, MasksUnder, OneSide, OneSided};
 use columns::field;
 use columns::masks;
 use places::HeldPlace;
@@ -112,4 +115,57 @@ pub fn none_known() -> [bool; 16]
     ensures { λ r. ⌜ length r ≡ 16 ⌝ }
 {
     [false; 16]
+}
+
+// A value above 0 at a corner that is known.
+fn is_high(known: bool, x: i64) -> bool
+    ensures { λ r. ⌜ r ≡ (known && not (leZ x 0ℤ)) ⌝ }
+{
+    let below = x <= 0;
+    known & !below
+}
+
+// A value that is not above 0 at a corner that is known.
+fn is_low(known: bool, x: i64) -> bool
+    ensures { λ r. ⌜ r ≡ (known && leZ x 0ℤ) ⌝ }
+{
+    let below = x <= 0;
+    known & below
+}
+
+// Value k is above 0 at some of the corners that are known, and not above 0 at others.
+fn two_sided(n: usize, k: usize, values: &[i64; 48], known: &[bool; 16]) -> bool
+    requires { ⌜ (Axes n) × ((Within n (now values)) × ((length (now values) ≡ 48) × (length (now known) ≡ 16))) ⌝ }
+    requires { ⌜ k < 3 ⌝ }
+    ensures { λ r. ⌜ (r ≡ false → OneSide n k (now (values .entry)) (now (known .entry))) ⌝ }
+{
+    let corners = 1usize << n;
+    let mut high = false;
+    let mut low = false;
+    let mut m: usize = 0;
+    while m < corners {
+        let x = values[3 * m + k];
+        let is = known[m];
+        let above = is_high(is, x);
+        let below = is_low(is, x);
+        high = high | above;
+        low = low | below;
+        m += 1;
+    }
+    high & low
+}
+
+// A polynomial has one side only at the corners that are known: then no facet of the cube is crossed, and none need be judged.
+pub fn one_sided(n: usize, values: &[i64; 48], known: &[bool; 16]) -> bool
+    requires { ⌜ (Axes n) × ((Within n (now values)) × ((length (now values) ≡ 48) × (length (now known) ≡ 16))) ⌝ }
+    ensures { λ r. ⌜ (r ≡ true → OneSided n (now (values .entry)) (now (known .entry))) ⌝ }
+{
+    let mut k: usize = 0;
+    while k + 1 < n {
+        if !two_sided(n, k, values, known) {
+            return true;
+        }
+        k += 1;
+    }
+    false
 }

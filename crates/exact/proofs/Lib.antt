@@ -34,3 +34,4 @@ pub mod CountFrom
 pub mod Cofactor
 pub mod CoefficientSize
 pub mod SmallDeterminants
+pub mod OneSided

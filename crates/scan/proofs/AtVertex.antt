@@ -1,11 +1,11 @@
 -- The facets with a lowest vertex, chain by chain of the table.
-use Prim.Native.Nat.{ℕ, suc, _+_, _<_}
+use Prim.Native.Nat.{ℕ, suc, _+_, _/_, _%_, _<_}
 use mathlib.Core.Path.{_≡_, refl, sym, ap, ap₂, subst, _∙_}
-use mathlib.Core.Bool.{Bool, true, _&&_}
+use mathlib.Core.Bool.{Bool, true, cond, _&&_}
 use mathlib.Core.List.{List, [], _∷_, map}
 use lib.IntN.{ℤ}
 use lib.ListN.{length, getD}
-use lib.Dec.{eqb}
+use lib.Dec.{eqb, lit≤}
 use borrow.Author.Tests.{eq-eqb}
 use Rattle.exact.proofs.AndTests.{and-true}
 use Rattle.exact.specs.Crossed.{countFrom}
@@ -15,16 +15,20 @@ use Rattle.curves.specs.Box.{keep, chains}
 use Rattle.columns.proofs.Counted.{map-map}
 use Rattle.bits.specs.Axes.{Axes}
 use Rattle.bits.proofs.EachDimension.{each-axes}
-use Rattle.places.specs.Held.{vertexAs, facetAs, VertexSize}
+use Rattle.places.specs.Held.{vertexAs, masksAs, facetAs, VertexSize}
 use Rattle.places.specs.declared.Vertex.{Vertex}
 use Rattle.places.specs.declared.HeldPlace.{HeldPlace}
+use Rattle.job.specs.OpenJob.{JobOf}
 use Rattle.job.proofs.OpenJob.{job-axes}
+use Rattle.values.proofs.Moves.{vertex-wider}
 use Rattle.step.specs.Held.{heldLimit}
-use Rattle.cube.specs.Cube.{Cube}
+use Rattle.cube.specs.Cube.{Cube, OneSided}
+use Rattle.least.specs.Search.{leastIn}
 use Rattle.scan.specs.Chains.{chainArray, firstChain, chainWord, chainOf, facetOn, PlaceOn}
 use Rattle.scan.specs.Scanned.{OnCube, CubeAt}
 use Rattle.scan.proofs.ChainTable.{chainCount, chains-tabled, digits-under, chain-formed}
-use Rattle.scan.proofs.Gathered.{gathered, keep-gathered}
+use Rattle.scan.proofs.Gathered.{gathered, gathered-none, keep-gathered}
+use Rattle.scan.proofs.SeamTest.{one-sided-seam}
 
 -- facet j with a lowest vertex
 unfoldable pub facetAt : ℕ → Grid.Vertex → ℕ → Facet
@@ -81,3 +85,31 @@ module _ {s : List ℕ} {n : ℕ} {v : Vertex} {values : List ℤ} {known : List
   pub met-here : (t : Facet → Bool) → keep t (facetAs n p ∷ []) ≡ metAt t n (vertexAs n v) j
   unfolding metAt
   met-here t = ap (λ f. keep t (f ∷ [])) facet-is
+
+-- ---- a cube in which a polynomial has one side only
+
+-- the place of chain j, as the code makes it
+placeFor : ℕ → Vertex → ℕ → HeldPlace
+placeFor n v j = record { low = v; mask1 = chainWord n j / 256; mask2 = chainWord n j / 16 % 16; mask3 = chainWord n j % 16; side = 0 }
+
+place-for : (n : ℕ) (v : Vertex) (j : ℕ) → PlaceOn v (chainWord n j) (placeFor n v j)
+unfolding placeFor facetAs masksAs facetOn chainOf
+place-for n v j = record { facet = λ n. refl; low = refl; mask1 = refl; mask2 = refl; mask3 = refl; side = refl }
+
+pub nothing-met : {s : List ℕ} {n : ℕ} {v : Vertex} {values : List ℤ} {known : List Bool} → CubeAt s n v values known → OneSided n values known
+    → keep (leastIn s) (map (facetOn (vertexAs n v)) (chains n)) ≡ []
+unfolding metAt keep
+nothing-met {s} {n} {v} c o =
+    let a : Axes n = job-axes (c .job) in
+    sym (met-all (leastIn s) n (vertexAs n v) a)
+    ∙ gathered-none (metAt (leastIn s) n (vertexAs n v)) (chainCount n)
+    (λ j l.
+    let p = place-for n v j in
+    ap (λ b. cond b (facetAt n (vertexAs n v) j ∷ []) [])
+    (ap (leastIn s) (sym (facet-is c l refl p)) ∙ one-sided-seam (on-cube c l refl p) o))
+
+-- a vertex of a box, with its cube
+pub cube-at : {s : List ℕ} {n : ℕ} {v : Vertex} {values : List ℤ} {known : List Bool} {one : List ℤ} → JobOf n s → VertexSize 1024 v
+    → Cube s n (vertexAs n v) values known one → CubeAt s n v values known
+unfolding heldLimit
+cube-at j l c = record { job = j; size = vertex-wider l (lit≤ tt); one = _; cube = c }

@@ -32,6 +32,12 @@ module _ {A : Type 0} where
                 ∙ ap (λ l. gathered F j ++ l) (append-assoc (F j) (r .0) (F m)),
           )
 
+  -- nothing is met anywhere
+  pub gathered-none : (F : ℕ → List A) (m : ℕ) → ((j : ℕ) → j < m → F j ≡ []) → gathered F m ≡ []
+  unfolding gathered
+  gathered-none F zero h = refl
+  gathered-none F (suc m) h = ap₂ (λ x y. x ++ y) (gathered-none F m (λ j l. h j (omega arith))) (h m (omega arith))
+
 -- ---- lists that are gathered
 
 keep-append : {A : Type 0} (t : A → Bool) (xs ys : List A) → keep t (xs ++ ys) ≡ keep t xs ++ keep t ys

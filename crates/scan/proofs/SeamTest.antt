@@ -1,7 +1,7 @@
 -- The test of one facet: what is not readable or not crossed is no seam's least, and what is, is held.
 use Prim.Native.Nat.{ℕ}
 use native.Mathlib.Omega.{arith}
-use mathlib.Core.Path.{_≡_, sym, ap, subst, _∙_}
+use mathlib.Core.Path.{_≡_, refl, sym, ap, subst, _∙_}
 use mathlib.Core.Bool.{Bool, true, false, _&&_, and-false}
 use mathlib.Core.List.{List}
 use lib.IntN.{ℤ}
@@ -18,10 +18,12 @@ use Rattle.paper.specs.Job.{dimension}
 use Rattle.paper.specs.Values.{fieldOf}
 use Rattle.places.specs.Held.{facetAs, placeAs}
 use Rattle.places.specs.declared.HeldPlace.{HeldPlace}
+use Rattle.job.proofs.OpenJob.{job-axes}
 use Rattle.facets.specs.Cells.{facetColumns}
 use Rattle.step.specs.Held.{Held}
 use Rattle.step.proofs.HeldPlaces.{held-form}
-use Rattle.cube.specs.Cube.{FacetTaken}
+use Rattle.cube.specs.Cube.{FacetTaken, OneSided}
+use Rattle.cube.proofs.OneSidedFacets.{one-sided-facet}
 use Rattle.seamlist.specs.Seams.{front, noneBefore, leastTest}
 use Rattle.seamlist.specs.JobSeams.{jobFacets}
 use Rattle.least.specs.Search.{leastIn, HoldsFacet}
@@ -74,6 +76,21 @@ module _ {s : List ℕ} {n : ℕ} {p : HeldPlace} {values : List ℤ} {known : L
 
     pub taken-holds : HoldsFacet s n f cells
     taken-holds = record { within = t .within; columns = t .columns h }
+
+  -- nor is a facet of a cube in which a polynomial has one side only
+  pub one-sided-seam : OneSided n values known → leastIn s f ≡ false
+  unfolding traceable front
+  one-sided-seam q = sym (not-taken s f (go (readableAll (fieldOf s) (facetVertices f)) refl))
+    where
+      go : (b : Bool) → readableAll (fieldOf s) (facetVertices f) ≡ b → traceable (dimension s) (fieldOf s) (front f) ≡ false
+      go true e =
+          let c : crossedFacet (dimension s) (fieldOf s) f ≡ false =
+          subst (λ m. crossedFacet m (fieldOf s) f ≡ false) (o .job .dimension) (one-sided-facet (job-axes (o .job)) (o .masks) (o .cube) q e) in
+          ap (λ b. placeOk (dimension s) (front f) && (readableAll (fieldOf s) (facetVertices f) && b)) c
+          ∙ ap (λ b. placeOk (dimension s) (front f) && b) (and-false (readableAll (fieldOf s) (facetVertices f)))
+          ∙ and-false (placeOk (dimension s) (front f))
+      go false e =
+          ap (λ b. placeOk (dimension s) (front f) && (b && crossedFacet (dimension s) (fieldOf s) f)) e ∙ and-false (placeOk (dimension s) (front f))
 
   -- the least of a seam is held
   pub seam-held : leastIn s f ≡ true → Held s n p

@@ -102,7 +102,7 @@ fn at_vertex(
     Scanned::On(found)
 }
 
-// The values of the cube above a vertex, and then all facets with it as their lowest.
+// The values of the cube above a vertex, and then all facets with it as their lowest; none is judged where a polynomial has one side only.
 fn scan_vertex(
     job: &[u8],
     n: usize,
@@ -120,6 +120,9 @@ fn scan_vertex(
     ensures room { λ r. ⌜ CubeRoom n (now (one .exit)) (now (values .exit)) (now (known .exit)) ⌝ }
 {
     cube::fill(job, n, v, one, values, known);
+    if cube::one_sided(n, values, known) {
+        return Scanned::On(count);
+    }
     at_vertex(job, n, v, table, values, known, count, buffer)
 }
 

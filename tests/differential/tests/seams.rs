@@ -7,30 +7,30 @@ use reference::seams_checks::{self as checks, Least};
 #[test]
 fn small_boxes() {
     let least = Least {
-        listed: [60, 300, 800],
-        runs: [40, 40, 250],
-        standing: [25, 100, 700],
-        orders: [1_500, 250, 500],
-        chains: [700, 100, 20],
-        lies: [100, 40, 40],
-        starts: 700,
+        listed: [100, 500, 1_400],
+        runs: [70, 70, 450],
+        standing: [50, 180, 1_200],
+        orders: [3_000, 500, 900],
+        chains: [1_200, 190, 40],
+        lies: [170, 55, 55],
+        starts: 1_200,
     };
-    checks::small_boxes(&Library, 80, 120_000, least);
+    checks::small_boxes(&Library, 80, 200_000, least);
 }
 
 #[test]
 fn every_space() {
-    checks::every_space(&Library, 81, 12_000, [10, 50, 150]);
+    checks::every_space(&Library, 81, 20_000, [20, 80, 250]);
 }
 
 #[test]
 fn any_start() {
-    checks::any_start(&Library, 82, 4_000, 100);
+    checks::any_start(&Library, 82, 5_000, 150);
 }
 
 #[test]
 fn goes_by_the_bias() {
-    checks::goes_by_the_bias(&Library, 83, 15_000, [300; 3]);
+    checks::goes_by_the_bias(&Library, 83, 20_000, [400; 3]);
 }
 
 #[test]
@@ -45,7 +45,7 @@ fn least_number_is_answered() {
 
 #[test]
 fn larger_boxes() {
-    checks::larger_boxes(&Library, 85, [400, 250, 150]);
+    checks::larger_boxes(&Library, 85, [1_000, 600, 400]);
 }
 
 #[test]
@@ -70,5 +70,5 @@ fn with_many_seams() {
 
 #[test]
 fn each_facet_in_one_seam() {
-    checks::each_facet_in_one_seam(&Library, 87, [1_500, 600, 200]);
+    checks::each_facet_in_one_seam(&Library, 87, [10_000, 6_000, 3_000]);
 }

@@ -9,6 +9,7 @@ use reference::build::case_a;
 use reference::generate::{any_job_in_small_box, any_outlines, Random};
 use reference::job::open;
 use reference::limits::DIMENSIONS;
+use reference::long_curves::long_curves;
 use reference::many_seams::many_seams;
 use reference::marked::seams_listings;
 use reference::seams_checks::is_small;
@@ -82,6 +83,15 @@ fn more_seams_than_space() {
     }
 }
 
+/// A trace of more places than the listing has space for is followed to its end.
+#[test]
+fn a_long_seam() {
+    let [(parts, count), ..] = long_curves();
+    let text = printed(&parts.bytes());
+    assert!(text.lines().any(|line| line.ends_with(&format!(" loop {count}"))));
+    assert!(text == seams_listing(&parts.bytes()));
+}
+
 /// What a text says in its first line: the refusal or the ending.
 fn answer(text: &str) -> Answer {
     let words: Vec<&str> = text.lines().next().expect("a line").split(' ').collect();
@@ -145,6 +155,6 @@ fn texts_are_the_reference() {
     answers.assert_met(&and_those_of_open(&[Ok("complete")]));
     let each = ["loop", "edge", "limit"].into_iter();
     let wanted: Vec<_> = each.flat_map(|v| [(false, v), (true, v)]).collect();
-    DIMENSIONS.into_iter().for_each(|n| verdicts.assert_often_in(n, 10, &wanted));
+    DIMENSIONS.into_iter().for_each(|n| verdicts.assert_often_in(n, 5, &wanted));
     counts.assert_often(1, &[0, 1, 2, 3, 4]);
 }

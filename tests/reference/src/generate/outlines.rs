@@ -66,7 +66,7 @@ const SIDES: [Sides; 3] = [
 /// How large a box is to be.
 #[derive(Clone, Copy, PartialEq, Eq, Debug)]
 pub enum Size {
-    /// Of up to 49, 64 or 81 vertices; a few kinds have some more.
+    /// Of up to 49, 64 or 81 vertices.
     Small,
     /// Of up to 289, 729 or 625 vertices.
     Large,
