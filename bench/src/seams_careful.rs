@@ -48,6 +48,21 @@ impl Cube {
         cube
     }
 
+    /// Whether some polynomial has one side only at the vertices that are there: then no facet is
+    /// crossed.
+    fn is_one_sided<const N: usize>(&self) -> bool {
+        let mut high = [0u32; 3];
+        for mask in 0..1 << N {
+            for k in 0..N - 1 {
+                high[k] |= ((self.values[mask][k] > 0) as u32) << mask;
+            }
+        }
+        (0..N - 1).any(|k| {
+            let high = high[k] & self.readable;
+            high == 0 || high == self.readable
+        })
+    }
+
     /// The values at the vertices of a facet.
     fn facet<const N: usize>(&self, masks: u64) -> [&Values; N] {
         std::array::from_fn(|k| &self.values[(masks >> (8 * k)) as usize & 15])
@@ -130,7 +145,8 @@ fn seams_in<const N: usize>(bytes: &[u8], buffer: &mut [u8]) -> Listed {
     let mut count = 0;
     loop {
         let cube = Cube::of(&mut job, &lowest);
-        for chain in &chains {
+        let judged = if cube.is_one_sided::<N>() { &[] } else { &chains[..] };
+        for chain in judged {
             if chain.needs & !cube.readable != 0 {
                 continue;
             }

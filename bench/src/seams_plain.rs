@@ -1,6 +1,6 @@
 //! A straightforward list of seams in Rust, made for comparing times. The lowest vertices of the
 //! box are gone through in order, the values at the vertices of the unit cube above each are taken
-//! once, and each chain of masks is judged by them. A crossed facet is walked from both ways, one
+//! once, and each chain of masks is judged by them, unless a polynomial has one side only there. A crossed facet is walked from both ways, one
 //! step each in turn, by the parts of `plain.rs`, until a facet that comes before it is met, a walk
 //! closes or both have ended. No facet is remembered. It takes a job that opens and tests nothing
 //! of it. Unproved; compared with brute force by the tests of `seam_tests.rs`.
@@ -33,6 +33,13 @@ fn cube<const A: usize, const P: usize>(job: &Job<A, P>, lowest: &[i64; A]) -> C
         }
     }
     cube
+}
+
+/// Whether some polynomial has one side only at the vertices that are there: then no facet is
+/// crossed.
+fn is_one_sided<const P: usize>(n: usize, cube: &Cube<P>) -> bool {
+    let there = || cube.iter().flatten();
+    (0..n - 1).any(|k| !there().any(|values| values[k] > 0) || !there().any(|values| values[k] <= 0))
 }
 
 /// The values at the n vertices of a facet, if all are there; room for those of a simplex.
@@ -128,6 +135,10 @@ fn seams_in<const A: usize, const P: usize, const V: usize>(
     let mut at = Some(job.ends.map(|(low, _)| low));
     while let Some(lowest) = at {
         let cube = cube(&job, &lowest);
+        at = next_vertex(&job, &lowest);
+        if is_one_sided(n, &cube) {
+            continue;
+        }
         for masks in chains.iter().map(|masks| &masks[..n - 1]) {
             let Some(values) = facet_values::<P, V>(&cube, masks) else { continue };
             if !is_crossed(n, |k| values[k]) {
@@ -144,7 +155,6 @@ fn seams_in<const A: usize, const P: usize, const V: usize>(
                 count += 1;
             }
         }
-        at = next_vertex(&job, &lowest);
     }
     Listed { full: false, count }
 }
