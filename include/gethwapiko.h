@@ -145,8 +145,9 @@ TraceAnswer gethwapiko_trace(const uint8_t *job, size_t job_length, uint8_t *buf
 /* Every seam in the box. A seam is a crossed facet in the box, with readable values, and all that are joined to it, even if it stands by itself. Its
  * place is its least facet with side 0: lowest vertex first, coordinates as whole numbers, axis 1 weighing most, then the masks in order. The places
  * are written to the buffer from its front, in that order, each seam once; space is counted, and bytes past the last place keep their values, as in
- * Trace. The job's start counts only for its form: refusals 1 to 8 alone, and a refusal touches nothing. Every facet of the box is judged, which for the
- * largest box takes some tens of milliseconds in dimension 2, seconds in dimension 3 at 64 units an axis, and far longer in larger boxes. */
+ * Trace. The job's start counts only for its form: refusals 1 to 8 alone, and a refusal touches nothing. Every vertex of the box is looked at: the
+ * largest box takes some tens of milliseconds in dimension 2 and half a minute in dimension 3; in dimension 4 a box of 64 units an axis takes some
+ * ten seconds, and the largest hours. */
 SeamsAnswer gethwapiko_seams(const uint8_t *job, size_t job_length, uint8_t *buffer, size_t buffer_length);
 
 /* The small bench cutter, whose controller takes box ends from -64 to 64 and at most 16 terms a polynomial, in dimensions 2, 3 and 4. Each function

@@ -30,8 +30,8 @@ use Rattle.job.proofs.OpenJob.{job-axes}
 use Rattle.facets.specs.Cells.{columnAt, simplexColumns, facetColumns}
 use Rattle.columns.specs.Found.{ValuesPut}
 use Rattle.orders.specs.Table.{orderAt}
-use Rattle.orders.specs.Corners.{cornerUnder, CornerIs}
-use Rattle.orders.proofs.Anywhere.{place-anywhere, pivot-order, corner-low}
+use Rattle.sides.specs.Corners.{cornerUnder, CornerIs}
+use Rattle.sides.proofs.Anywhere.{place-anywhere, pivot-order, corner-low}
 use Rattle.simplices.specs.Search.{Found}
 use Rattle.moves.specs.Columns.{newIndex, ColumnsMoved}
 use Rattle.step.specs.Held.{Held}

@@ -19,7 +19,7 @@ use Rattle.places.specs.declared.Vertex.{Vertex}
 use Rattle.places.specs.declared.HeldPlace.{HeldPlace}
 use Rattle.facets.specs.Cells.{Cells, simplexColumns, facetColumns}
 use Rattle.orders.specs.Table.{orderAt, NeighbourRow}
-use Rattle.orders.specs.Corners.{PlaceIs}
+use Rattle.sides.specs.Corners.{PlaceIs}
 use Rattle.simplices.specs.Search.{Found}
 use Rattle.moves.specs.Columns.{newIndex, ColumnsMoved}
 use Rattle.step.specs.Held.{Held}

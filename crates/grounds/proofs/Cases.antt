@@ -6,7 +6,7 @@ use mathlib.Core.List.{List, [], _∷_}
 use lib.ListN.{set}
 use Rattle.paper.specs.Operations.{Answer, refused, answered}
 use Rattle.paper.proofs.Cases.{bodyOffsets, caseA, caseC, caseF, caseG, caseH, caseI, oneTermJob, unitBox, unitStart}
-use Rattle.paper.proofs.Cases4.{caseC4}
+use Rattle.paper.proofs.Jobs.{caseC4}
 use Rattle.grounds.specs.Ground.{Ground, zeroDeterminant, vertexAgainst, allWith, leadingZeros, decidingPower, groundFrom, ground}
 use Rattle.grounds.specs.Judged.{placeColumns, judgedBy}
 

@@ -6,7 +6,3 @@ pub mod OrderDigits
 pub mod Neighbours
 pub mod RowVertices
 pub mod VertexMasks
-pub mod FacetMasks
-pub mod FacetSides
-pub mod Anywhere
-pub mod MovedCorners

@@ -1,11 +1,8 @@
 -- Theorems about the definitions of document 01 and of the requests, a file for each idea.
 pub mod TextCodes
 pub mod Cases
-pub mod Cases4
-pub mod CasesBias
-pub mod CasesSum
-pub mod CasesNearest
-pub mod CasesTerms
+pub mod Jobs
+pub mod CasesShort
 pub mod Tests
 pub mod RangeSteps
 pub mod Refusals
@@ -27,7 +24,6 @@ pub mod StartTraceable
 pub mod PlacesWritten
 pub mod CurveCounted
 pub mod Demand3
-pub mod Demand3Example
 pub mod Millimetre
 pub mod Decimal
 pub mod Rounding

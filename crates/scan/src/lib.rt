@@ -64,7 +64,7 @@ fn at_facet(
     if buffer.len() / size <= count {
         return Scanned::Full;
     }
-    places::write_place(buffer, count * size, n, p);
+    stored::write_place(buffer, count * size, n, p);
     Scanned::On(count + 1)
 }
 

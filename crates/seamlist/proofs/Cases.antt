@@ -14,7 +14,7 @@ use Rattle.paper.specs.Values.{fieldOf}
 use Rattle.paper.specs.Operations as Operations
 use Rattle.paper.specs.Operations.{Answer, refused, answered, spaceOf}
 use Rattle.paper.proofs.Cases.{bodyOffsets, caseA, caseC, caseJ, oneTermJob, unitStart, place}
-use Rattle.paper.proofs.Cases4.{entries, jobOf, doubleWordBytes, term}
+use Rattle.paper.proofs.Jobs.{entries, jobOf, doubleWordBytes, term}
 use Rattle.seamlist.specs.Seams as Seams
 use Rattle.seamlist.specs.Seams.{facetBefore, front, seamsAmong}
 use Rattle.seamlist.specs.JobSeams as JobSeams

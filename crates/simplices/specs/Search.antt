@@ -5,8 +5,8 @@ use mathlib.Core.Bool.{Bool, true, false, _&&_, _||_}
 use lib.Dec.{eqb, leb}
 use Rattle.curves.specs.Grid.{Place, sameMasks, incidence}
 use Rattle.orders.specs.Table.{orderAt, InTable}
-use Rattle.orders.specs.Facets.{masksAt, sideAt, facetMask}
-use Rattle.orders.specs.Corners.{cornerUnder}
+use Rattle.sides.specs.Facets.{masksAt, sideAt, facetMask}
+use Rattle.sides.specs.Corners.{cornerUnder}
 
 -- mask i of the facet without vertex `out` is m, or the facet has no such mask
 unfoldable pub sameMask : ℕ → ℕ → ℕ → ℕ → ℕ → Bool

@@ -8,11 +8,11 @@ ghost use Rattle.curves.specs.Grid.{sameMasks, placeOk};
 ghost use Rattle.paper.specs.Limits.{dimensionOk};
 ghost use Rattle.places.specs.Held.{masksAs, placeAs};
 ghost use Rattle.orders.specs.Table.{InTable};
-ghost use Rattle.orders.specs.Facets.{masksAt};
+ghost use Rattle.sides.specs.Facets.{masksAt};
 ghost use Rattle.simplices.specs.Search.{sameMask, matches, FoundOut, Found};
-use orders::facet;
 use orders::table;
 use places::HeldPlace;
+use sides::facet;
 
 // A row of the table, and the index of the vertex left out.
 pub struct Incident {

@@ -13,7 +13,7 @@ use Rattle.curves.specs.Walk.{Verdict, loop, full}
 use Rattle.paper.specs.Job.{vertexBytes, encodePlace}
 use Rattle.paper.specs.Operations.{Answer, refused, answered, polynomialTerms, openValues, traced, verdictAndCount}
 use Rattle.paper.proofs.Cases.{bodyOffsets, caseA, place, placesA}
-use Rattle.paper.proofs.Cases4.{entries, jobOf, doubleWordBytes, term, coordinate}
+use Rattle.paper.proofs.Jobs.{entries, jobOf, doubleWordBytes, term, coordinate}
 use Rattle.small.specs.Small.{smallCoordinateLimit, smallTermLimit, endSmall, axisSmall, boxSmall, termsSmall, jobSmall, smallRefusal, smallOpened, smallTraceRefusal, smallTraced}
 
 -- ---- the jobs

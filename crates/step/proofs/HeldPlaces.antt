@@ -28,8 +28,8 @@ use Rattle.values.specs.Moves.{moveLimit}
 use Rattle.values.proofs.Moves.{vertex-wider}
 use Rattle.job.proofs.OpenJob.{job-axes}
 use Rattle.orders.specs.Table.{InTable, orderAt}
-use Rattle.orders.specs.Corners.{CornerIs, LowIs}
-use Rattle.orders.proofs.MovedCorners.{first-coordinates, corner-rest, low-rest, size-parts}
+use Rattle.sides.specs.Corners.{CornerIs, LowIs}
+use Rattle.sides.proofs.MovedCorners.{first-coordinates, corner-rest, low-rest, size-parts}
 use Rattle.step.specs.Held.{heldLimit, Held}
 
 -- ---- the form and the bytes

@@ -25,7 +25,7 @@ use Rattle.facets.specs.Cells.{simplexColumns}
 use Rattle.columns.specs.Found.{stopNumber, SimplexFound}
 use Rattle.job.proofs.OpenJob.{job-axes}
 use Rattle.orders.specs.Table.{orderAt}
-use Rattle.orders.specs.Corners.{CornerIs, PlaceIs}
+use Rattle.sides.specs.Corners.{CornerIs, PlaceIs}
 use Rattle.simplices.specs.Search.{Found}
 use Rattle.step.specs.Held.{Held}
 use Rattle.step.specs.Ahead.{Leads}

@@ -24,7 +24,7 @@ pub fn visit(
     requires { ⌜ (Held (now job) n start) × ((Carries (now job) n here (now cells)) × (at + 3 * n ≤ length (now buffer))) ⌝ }
     ensures { λ r. ⌜ Visits (now (job .entry)) n start (here .place) at (now (buffer .entry)) (now (buffer .exit)) r (now (cells .exit)) ⌝ }
 {
-    places::write_place(buffer, at, n, here.place);
+    stored::write_place(buffer, at, n, here.place);
     ahead::look_ahead(job, n, start, here, cells)
 }
 

@@ -6,7 +6,7 @@ use borrow.Author.Tests.{not-true, not-false}
 use Rattle.job.proofs.OpenJob.{job-axes}
 use Rattle.places.specs.Held.{vertexAs}
 use Rattle.orders.specs.Table.{orderAt}
-use Rattle.orders.specs.Corners.{CornerIs}
+use Rattle.sides.specs.Corners.{CornerIs}
 use Rattle.step.proofs.HeldPlaces.{low-moves, corner-moves}
 use Rattle.carried.specs.Carries.{newVertexAt}
 use Rattle.carried.proofs.CarriedStep.{at-edge, at-limit, exit-low, leads, carries}
