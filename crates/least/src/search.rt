@@ -91,7 +91,8 @@ fn turned(p: HeldPlace) -> HeldPlace
     }
 }
 
-// A crossed facet, given with side 0 and its columns twice, is the least of its seam.
+// A crossed facet, given with side 0 and its columns twice, is the least of its seam. Where the curve closes, the first walk is back first, so that
+// the second's closing needs no answer of its own.
 pub fn is_least(
     job: &[u8],
     n: usize,

@@ -9,7 +9,6 @@ use lib.ListN.{length, getD, length-append, length-map, List·getD-append}
 use lib.Seq.{getD-append-add}
 use Rattle.exact.specs.Int.{_⊕_}
 use Rattle.exact.proofs.CountFrom.{length-map-countFrom, getD-map-countFrom}
-use Rattle.curves.specs.Grid.{Facet}
 use Rattle.curves.specs.Box.{pairs, span, between, boxVertices, chains, boxFacets}
 use Rattle.seamlist.specs.BoxIndex.{boxSize, numbered}
 
@@ -90,10 +89,3 @@ pub length-boxFacets : (n : ℕ) (ls hs : List ℤ) → length (boxFacets n ls h
 unfolding boxFacets
 length-boxFacets n ls hs =
     length-pairs (λ v ms. record { low = v; masks = ms }) (boxVertices ls hs) (chains n) ∙ ap (λ m. m * length (chains n)) (length-boxVertices ls hs)
-
-pub getD-boxFacets : (n : ℕ) (ls hs : List ℤ) (i j : ℕ) (d : Facet) → i < boxSize ls hs → j < length (chains n)
-    → getD (boxFacets n ls hs) (i * length (chains n) + j) d ≡ record { low = numbered ls hs i; masks = getD (chains n) j [] }
-unfolding boxFacets
-getD-boxFacets n ls hs i j d h k =
-    getD-pairs (λ v ms. record { low = v; masks = ms }) (boxVertices ls hs) (chains n) i j [] [] d (omega (arith, length-boxVertices ls hs)) k
-    ∙ (λ t. record { low = getD-boxVertices ls hs i h t; masks = getD (chains n) j [] })

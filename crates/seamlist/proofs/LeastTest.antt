@@ -115,17 +115,6 @@ module _ (n : ℕ) (φ : Field) (large : 0 < n) where
         first = λ g j. none-at f (traceOf n φ (front f) space) e (loop-covers w o (not-full-traced w o space (loop-not-full h)) h g j);
       }
 
-  -- a facet with one before it that is joined to it does not pass, where neither trace is full
-  pub before-fails : (space : ℕ) (f g : Facet)
-      → (OnSeam n φ f → ¬ (traceOf n φ (front f) space .verdict ≡ full))
-      → (OnSeam n φ f → ¬ (traceOf n φ (turn (front f)) space .verdict ≡ full))
-      → Joined n φ f g → facetBefore g f ≡ true → leastTest n φ space f ≡ false
-  before-fails space f g nt nb j e = go (leastTest n φ space f) refl
-    where
-      go : (b : Bool) → leastTest n φ space f ≡ b → leastTest n φ space f ≡ false
-      go true h = absurd (false≢true (sym (tested-least space f nt nb h .first g j) ∙ e))
-      go false h = h
-
 -- ---- jobs
 
 module _ {s : List ℕ} (o : Opens s) where
@@ -147,7 +136,3 @@ module _ {s : List ℕ} (o : Opens s) where
 
   pub job-tested-least : (f : Facet) → leastTest (dimension s) (fieldOf s) (length (jobFacets s)) f ≡ true → Least (dimension s) (fieldOf s) f
   job-tested-least f e = tested-least (dimension s) (fieldOf s) large (length (jobFacets s)) f (front-room f) (turned-room f) e
-
-  pub joined-before : (f g : Facet) → Joined (dimension s) (fieldOf s) f g → facetBefore g f ≡ true
-      → leastTest (dimension s) (fieldOf s) (length (jobFacets s)) f ≡ false
-  joined-before f g j e = before-fails (dimension s) (fieldOf s) large (length (jobFacets s)) f g (front-room f) (turned-room f) j e
