@@ -3,7 +3,7 @@
 use Prim.Native.Nat.{ℕ, _<_}
 use native.Mathlib.Omega.{arith}
 use mathlib.Core.Path.{_≡_, refl, sym, ap, _∙_}
-use mathlib.Core.Bool.{Bool, true, false, not, _&&_, false≢true}
+use mathlib.Core.Bool.{Bool, true, false, not, _&&_}
 use mathlib.Core.Logic.{⊎-elim}
 use mathlib.Core.List.{List, [], _∷_, map, List·Memᴰ·head, List·Memᴰ·tail, List·Memᴰ·not-nil, List·Memᴰ·cases-cons, Memᴰ·map, Memᴰ·of-map}
 use lib.ListN.{length}
@@ -13,7 +13,6 @@ use Rattle.curves.specs.Grid.{Facet, Place, turn}
 use Rattle.curves.specs.Walk.{Trace, loop, full}
 use Rattle.curves.specs.Curve.{_∈_}
 use Rattle.curves.specs.Step.{Stop, Field, every, traceable}
-use Rattle.curves.specs.Joined.{Joined}
 use Rattle.curves.specs.GridDemand.{facetOf, traceOf}
 use Rattle.curves.proofs.WalkTrace.{loop-not-full}
 use Rattle.curves.proofs.WalkJoined.{not-full-traced}
