@@ -321,15 +321,15 @@ pub fn seams_numbers(answer: Seamed) -> SeamsAnswer
             full: 0,
             count: 0,
         },
-        Seamed::Complete(count) => SeamsAnswer {
+        Seamed::Complete(seams) => SeamsAnswer {
             refusal: 0,
             full: 0,
-            count,
+            count: seams,
         },
-        Seamed::Full(count) => SeamsAnswer {
+        Seamed::Full(seams) => SeamsAnswer {
             refusal: 0,
             full: 1,
-            count,
+            count: seams,
         },
     }
 }
