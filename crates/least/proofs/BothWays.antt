@@ -31,7 +31,8 @@ use Rattle.seamlist.specs.JobSeams.{jobFacets}
 use Rattle.seamlist.proofs.Room.{job-room}
 use Rattle.seamlist.proofs.LeastTest.{job-least-tested, loop-least}
 use Rattle.seamlist.proofs.FacetOrder.{before-irreflexive}
-use Rattle.least.specs.Search.{leastIn, restFrom, clearFrom, Walks, LeadsOn, HoldsFacet}
+use Rattle.seamlist.specs.WholeTrace.{restFrom}
+use Rattle.least.specs.Search.{leastIn, clearFrom, Walks, LeadsOn, HoldsFacet}
 
 -- a walk that began at its start has come to `here`, and the rest of the trace says what the whole does
 pub record Way (s : List ℕ) (n : ℕ) (start : HeldPlace) (here : Entered) (cells : List ℤ) : Type 0 where

@@ -7,11 +7,10 @@ use mathlib.Core.List.{List}
 use lib.IntN.{ℤ}
 use lib.ListN.{length}
 use Rattle.curves.specs.Grid.{Facet, Place, facetVertices}
-use Rattle.curves.specs.Walk.{Trace, loop, full, traceFrom}
-use Rattle.curves.specs.Step.{Stop, columns}
+use Rattle.curves.specs.Walk.{loop, full}
+use Rattle.curves.specs.Step.{columns}
 use Rattle.paper.specs.Job.{dimension}
 use Rattle.paper.specs.Values.{fieldOf}
-use Rattle.paper.specs.Operations.{stepIn, onSameFacet}
 use Rattle.paper.specs.declared.Verdict as Verdict
 use Rattle.places.specs.Held.{facetAs, placeAs}
 use Rattle.places.specs.declared.HeldPlace.{HeldPlace}
@@ -21,15 +20,12 @@ use Rattle.carried.specs.declared.Entered.{Entered}
 use Rattle.carried.specs.Carries.{Carries}
 use Rattle.seamlist.specs.Seams.{facetBefore, noneBefore, leastTest}
 use Rattle.seamlist.specs.JobSeams.{jobFacets}
+use Rattle.seamlist.specs.WholeTrace.{restFrom}
 use Rattle.least.specs.declared.search.Sought as Code
 
 -- the facet is the least of its seam
 unfoldable pub leastIn : List ℕ → Facet → Bool
 leastIn s f = leastTest (dimension s) (fieldOf s) (length (jobFacets s)) f
-
--- the trace from x on, of a walk that began at the start, with space for the whole box
-unfoldable pub restFrom : List ℕ → Place → Place → Trace Place Stop
-restFrom s start x = traceFrom (stepIn s) onSameFacet start (length (jobFacets s)) x
 
 -- none of its places lies on a facet before the start's
 unfoldable pub clearFrom : List ℕ → Place → Place → Bool

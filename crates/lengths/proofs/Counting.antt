@@ -25,11 +25,10 @@ use Rattle.step.specs.Held.{Held}
 use Rattle.carried.specs.declared.Entered.{Entered}
 use Rattle.ahead.specs.Visited.{GoesOn}
 use Rattle.seamlist.specs.JobSeams.{jobFacets}
-use Rattle.seamlist.specs.SeamText.{wholeTrace}
+use Rattle.seamlist.specs.WholeTrace.{wholeTrace, restFrom}
 use Rattle.seamlist.proofs.Room.{job-room}
 use Rattle.seamlist.proofs.RoomBound.{job-facets-few}
-use Rattle.least.specs.Search.{restFrom}
-use Rattle.least.proofs.Seeking.{ends-here, goes-on-to}
+use Rattle.seamlist.proofs.WholeTrace.{whole-rest, ends-here, goes-on-to}
 
 -- after so many places, with `here` next
 pub record Counting (s : List ℕ) (n : ℕ) (start here : HeldPlace) (count : ℕ) : Type 0 where
@@ -37,11 +36,6 @@ pub record Counting (s : List ℕ) (n : ℕ) (start here : HeldPlace) (count : �
   pub not-full : ¬ (restFrom s (placeAs n start) (placeAs n here) .verdict ≡ full)
   pub same-verdict : wholeTrace s (placeAs n start) .verdict ≡ restFrom s (placeAs n start) (placeAs n here) .verdict
   pub counted : length (wholeTrace s (placeAs n start) .places) ≡ count + length (restFrom s (placeAs n start) (placeAs n here) .places)
-
--- the whole trace is the rest from its start on
-whole-rest : (s : List ℕ) (x : Place) → wholeTrace s x ≡ restFrom s x x
-unfolding wholeTrace restFrom trace stepIn onSameFacet
-whole-rest s x = refl
 
 module _ {s : List ℕ} {n : ℕ} {start : HeldPlace} (h : Held s n start) where
   -- the walk does not use up the space

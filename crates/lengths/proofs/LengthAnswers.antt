@@ -20,7 +20,7 @@ use Rattle.step.proofs.CrossingHeld.{found-place, found-held}
 use Rattle.carried.specs.declared.Entered.{Entered}
 use Rattle.carried.specs.Carries.{Carries, Enters}
 use Rattle.carried.proofs.CarriedStep.{enters-carries}
-use Rattle.seamlist.specs.SeamText.{wholeTrace}
+use Rattle.seamlist.specs.WholeTrace.{wholeTrace}
 use Rattle.lengths.specs.Length.{tracedFrom}
 
 module _ {n : ℕ} {s p : List ℕ} {r : JobPlace} {cells : List ℤ} (j : JobOf n s) (c : Crosses n s p r cells) where

@@ -6,7 +6,7 @@ use Rattle.curves.specs.Walk.{Trace}
 use Rattle.curves.specs.Step.{Stop}
 use Rattle.paper.specs.Job.{dimension, decodePlace}
 use Rattle.paper.specs.Operations.{Answer, unless, pointRefusal}
-use Rattle.seamlist.specs.SeamText.{wholeTrace}
+use Rattle.seamlist.specs.WholeTrace.{wholeTrace}
 
 -- what Point refuses, or the trace
 unfoldable pub tracedFrom : List ℕ → List ℕ → Answer (Trace Place Stop)

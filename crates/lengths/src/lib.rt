@@ -7,7 +7,7 @@ ghost use Rattle.paper.specs.Answers.{tracedAs};
 ghost use Rattle.places.specs.Held.{placeAs};
 ghost use Rattle.job.specs.OpenJob.{JobOf};
 ghost use Rattle.carried.specs.Carries.{Carries};
-ghost use Rattle.seamlist.specs.SeamText.{wholeTrace};
+ghost use Rattle.seamlist.specs.WholeTrace.{wholeTrace};
 ghost use Rattle.lengths.specs.Length.{tracedFrom};
 use ahead::Visited;
 use carried::Entered;

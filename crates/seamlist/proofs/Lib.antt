@@ -1,4 +1,5 @@
 -- Laws of the definitions in specs/: the order of facets, the test of the least, the list of seams, the answers of jobs.
+pub mod WholeTrace
 pub mod Room
 pub mod LeastTest
 pub mod BoxIndex

@@ -8,20 +8,13 @@ use lib.IntN.{ℤ, pos}
 use lib.ListN.{length}
 use lib.Dec.{ltb}
 use Rattle.curves.specs.Grid.{Place}
-use Rattle.curves.specs.Walk.{Verdict, Trace}
+use Rattle.curves.specs.Walk.{Verdict}
 use Rattle.curves.specs.Step.{Stop}
-use Rattle.curves.specs.GridDemand.{traceOf}
 use Rattle.paper.specs.Job.{dimension}
-use Rattle.paper.specs.Values.{fieldOf}
 use Rattle.paper.specs.Operations.{Answer, refused, answered}
 use Rattle.paper.specs.Listing.{decimal, signedDecimal, blankNumbers, placeNumbers, verdictWord, refusedLine, listingSpace, longestJob}
-use Rattle.seamlist.specs.JobSeams.{jobFacets, Extent, complete, full, Seams, seamed}
-
--- ---- the curve of a place
-
--- the trace from a place with space for everything: no curve has more facets than the box
-unfoldable pub wholeTrace : List ℕ → Place → Trace Place Stop
-wholeTrace s p = traceOf (dimension s) (fieldOf s) p (length (jobFacets s))
+use Rattle.seamlist.specs.JobSeams.{Extent, complete, full, Seams, seamed}
+use Rattle.seamlist.specs.WholeTrace.{wholeTrace}
 
 -- ---- lines
 

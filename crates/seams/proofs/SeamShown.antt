@@ -29,7 +29,8 @@ use Rattle.places.specs.declared.HeldPlace.{HeldPlace}
 use Rattle.decimals.specs.Written.{Writes}
 use Rattle.decimals.proofs.WrittenParts.{writes-nothing}
 use Rattle.job.specs.OpenJob.{JobOf}
-use Rattle.seamlist.specs.SeamText.{wholeTrace, curveLine, seamLine, seamLines}
+use Rattle.seamlist.specs.WholeTrace.{wholeTrace}
+use Rattle.seamlist.specs.SeamText.{curveLine, seamLine, seamLines}
 use Rattle.lengths.specs.Length.{tracedFrom}
 use Rattle.seams.specs.Room.{seamLimit}
 use Rattle.seams.specs.Shown.{HasLine, HaveLines}

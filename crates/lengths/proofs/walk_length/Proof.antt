@@ -7,7 +7,7 @@ use lib.ListN.{length}
 use Rattle.places.specs.Held.{placeAs}
 use Rattle.carried.specs.Carries.{Carries}
 use Rattle.ahead.specs.Visited.{VisitedIs}
-use Rattle.least.specs.Search.{restFrom}
+use Rattle.seamlist.specs.WholeTrace.{restFrom}
 use Rattle.lengths.proofs.Counting.{Counting, counting-begins, count-few, counting-over, counting-on, fewer-left}
 use Rattle.lengths.proofs.walk_length.Statement.{statement}
 use Rattle.lengths.proofs.walk_length.Tie as tie

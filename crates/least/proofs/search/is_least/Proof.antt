@@ -8,7 +8,8 @@ use lib.ListN.{length}
 use Rattle.places.specs.Held.{placeAs}
 use Rattle.job.proofs.OpenJob.{job-dimension}
 use Rattle.step.proofs.HeldPlaces.{held-form}
-use Rattle.least.specs.Search.{restFrom, SoughtIs}
+use Rattle.seamlist.specs.WholeTrace.{restFrom}
+use Rattle.least.specs.Search.{SoughtIs}
 use Rattle.least.proofs.BothWays.{Way, way-on, way-begins, turned-held, turned-begins, crossed-columns, front-before, back-before, front-closed, second-decides, first-decides}
 use Rattle.least.proofs.search.is_least.Statement.{statement}
 use Rattle.least.proofs.search.is_least.Tie as tie

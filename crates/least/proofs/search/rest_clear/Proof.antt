@@ -4,7 +4,8 @@ use borrow.Author.Needs.{needs}
 use mathlib.Core.Path.{_≡_, refl, sym, subst, _∙_}
 use lib.ListN.{length}
 use Rattle.places.specs.Held.{placeAs}
-use Rattle.least.specs.Search.{restFrom, clearFrom, Walks, SoughtIs}
+use Rattle.seamlist.specs.WholeTrace.{restFrom}
+use Rattle.least.specs.Search.{clearFrom, Walks, SoughtIs}
 use Rattle.least.proofs.search.rest_clear.Statement.{statement}
 use Rattle.least.proofs.search.rest_clear.Tie as tie
 

@@ -1,0 +1,6 @@
+-- Inner loops before outer: document 02, request 2.14.
+pub mod Inside
+pub mod Standing
+pub mod Loops
+pub mod CutOrder
+pub mod Answers
