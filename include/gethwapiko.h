@@ -16,8 +16,9 @@
  *    4  entry count                        8  the start's masks or side
  * and of a place or an index:
  *    9  a vertex outside the box          12  index past the last
- *   10  a vertex value not readable       13  the place is not 3n bytes or is malformed; for Pen first, a length that is no multiple of 3n
+ *   10  a vertex value not readable       13  the place is not 3n bytes or is malformed; for Pen and the order of cutting first, a length that is no multiple of 3n
  *   11  not crossed
+ *   18  for the order of cutting alone, behind 11: the place's trace is no loop, or its loop already came
  * and by the small bench cutter's two functions alone, tested after 8 and before 9:
  *   17  a box end outside -64 to 64, or a polynomial with over 16 terms
  *
@@ -100,6 +101,12 @@ typedef struct {
     uint64_t count; /* the places written, 3n bytes each, one for each seam */
 } SeamsAnswer;
 
+typedef struct {
+    uint64_t refusal;
+    uint64_t stands;   /* 1 the order stands; 0 it does not */
+    uint64_t position; /* if it does not: the first position, counted from 0, whose loop has a later listed loop inside it */
+} OrderAnswer;
+
 enum { GETHWAPIKO_LIFT = 0, GETHWAPIKO_DRAW = 1, GETHWAPIKO_CLOSE = 2 };
 
 typedef struct {
@@ -149,6 +156,14 @@ TraceAnswer gethwapiko_trace(const uint8_t *job, size_t job_length, uint8_t *buf
  * largest box takes some tens of milliseconds in dimension 2 and half a minute in dimension 3; in dimension 4 a box of 64 units an axis takes some
  * ten seconds, and the largest hours. */
 SeamsAnswer gethwapiko_seams(const uint8_t *job, size_t job_length, uint8_t *buffer, size_t buffer_length);
+
+/* The order of cutting: inner loops before outer, in dimension 2. The list has a place on each loop, 3n bytes each, in the proposed order of cutting; any
+ * place of a loop will do, with either side. A lattice vertex is inside a loop if, going from it along axis 1 to the high end of the box, an odd number
+ * of the edges passed (mask 1) are facets of that loop; a loop is inside another if its place's lowest vertex is, and then all its vertices are. The
+ * order stands exactly if each loop comes after all listed loops inside it; an empty list stands. By rising greatest x of a vertex any list of loops
+ * stands. Refusals 3 (another dimension), 13 (a length that is no multiple of 3n), then position by position 13, 9, 10, 11, 18, all of one position
+ * before the next. Nothing is written. Of k loops the earlier of each pair is walked once: k * k / 2 walks. */
+OrderAnswer gethwapiko_cut_order(const uint8_t *job, size_t job_length, const uint8_t *places, size_t places_length);
 
 /* The small bench cutter, whose controller takes box ends from -64 to 64 and at most 16 terms a polynomial, in dimensions 2, 3 and 4. Each function
  * answers refusal 17, or exactly what the one without `small` in its name answers, the buffer included; 17 exactly if that one opens the job and a

@@ -6,6 +6,7 @@ use numbers::BodyAnswer;
 use numbers::GroundAnswer;
 use numbers::JudgeAnswer;
 use numbers::OpenAnswer;
+use numbers::OrderAnswer;
 use numbers::PenAnswer;
 use numbers::PointAnswer;
 use numbers::SeamsAnswer;
@@ -24,7 +25,8 @@ ghost use Rattle.grounds.specs.Judged.{judgedBy};
 ghost use Rattle.small.specs.Small.{smallOpened, smallTraced};
 ghost use Rattle.numbers.specs.Numbers.{openNumbers, bodyEntry, bodyNumbers, judgeNumbers, groundNumbers, pointNumbers, stepNumbers};
 ghost use Rattle.seamlist.specs.JobSeams.{seamed, extentAndCount, seamsAfter};
-ghost use Rattle.numbers.specs.Numbers.{traceNumbers, seamsNumbers, isSet, penNumbers, sumNumbers};
+ghost use Rattle.nesting.specs.CutOrder.{ordered};
+ghost use Rattle.numbers.specs.Numbers.{traceNumbers, seamsNumbers, orderNumbers, isSet, penNumbers, sumNumbers};
 
 // Open.
 #[no_mangle]
@@ -105,6 +107,14 @@ pub extern "C" fn gethwapiko_seams(job: &[u8], buffer: &mut [u8]) -> SeamsAnswer
     ensures written { λ r. ⌜ now (buffer .exit) ≡ seamsAfter (seamed (now (job .entry)) (spaceOf (now (job .entry)) (now (buffer .entry)))) (now (buffer .entry)) ⌝ }
 {
     numbers::seams_numbers(scan::seams(job, buffer))
+}
+
+// The order of cutting: whether inner loops come before outer ones.
+#[no_mangle]
+pub extern "C" fn gethwapiko_cut_order(job: &[u8], places: &[u8]) -> OrderAnswer
+    ensures { λ r. ⌜ r ≡ orderNumbers (ordered (now (job .entry)) (now (places .entry))) ⌝ }
+{
+    numbers::order_numbers(cutorder::cut_order(job, places))
 }
 
 // The small bench cutter's Open.

@@ -21,10 +21,10 @@ use Rattle.curves.proofs.Listed.{countFrom-listed, countFrom-under, pai
 -- ---- the whole numbers from l to h
 
 -- the test of order as a fact, and back
-test-le : (x y : ℤ) → leZ x y ≡ true → x ≤ℤ y
+pub test-le : (x y : ℤ) → leZ x y ≡ true → x ≤ℤ y
 test-le x y e = record { le = rw e tt }
 
-le-test : (x y : ℤ) → x ≤ℤ y → leZ x y ≡ true
+pub le-test : (x y : ℤ) → x ≤ℤ y → leZ x y ≡ true
 le-test x y h = go (leZ x y) (h .le)
   where
     go : (b : Bool) → T b → b ≡ true

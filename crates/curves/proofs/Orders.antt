@@ -28,7 +28,7 @@ tail-of : List ℕ → List ℕ
 tail-of [] = []
 tail-of (a ∷ l) = l
 
-countFrom-differ : (k m : ℕ) → NoDup (countFrom k m)
+pub countFrom-differ : (k m : ℕ) → NoDup (countFrom k m)
 unfolding countFrom
 countFrom-differ k zero = none
 countFrom-differ k (suc m) =

@@ -1,13 +1,13 @@
 -- The first position with a later one inside it, when one more is added at the end; and the answer from it.
-use Prim.Native.Nat.{ℕ, suc, zero, _+_, _≤_, _<_}
+use Prim.Native.Nat.{ℕ, suc, _+_, _≤_, _<_}
 use native.Mathlib.Omega.{arith}
-use mathlib.Core.Path.{_≡_, refl, sym, ap, ap₂, subst, _∙_}
+use mathlib.Core.Path.{_≡_, refl, sym, ap, _∙_}
 use mathlib.Core.Bool.{Bool, true, false, cond, _||_}
 use mathlib.Core.List.{List, [], _∷_, _++_}
 use lib.Dec.{ltb}
 use lib.ListN.{length}
 use borrow.Author.Tests.{lt-ltb, le-ltb}
-use Rattle.nesting.specs.Standing.{Standing, stands, brokenAt, some, standingFrom, standing}
+use Rattle.nesting.specs.Standing.{stands, brokenAt, some, standingFrom, standing}
 use Rattle.cutorder.specs.Positions.{firstFrom, earlierOf, firstBroken}
 
 -- ---- the earlier of two

@@ -2,7 +2,7 @@
 -- known.
 use Prim.Native.Nat.{ℕ, suc, _+_, _*_, _-_, _≤_, _<_}
 use native.Mathlib.Omega.{arith}
-use mathlib.Core.Path.{_≡_, refl, sym, ap, ap₂, subst, _∙_}
+use mathlib.Core.Path.{_≡_, refl, sym, ap, ap₂, _∙_}
 use mathlib.Core.Bool.{Bool, true, false, not, cond, _&&_}
 use mathlib.Core.List.{List, [], _∷_, map, Memᴰ·map}
 use lib.ListN.{take, drop}
@@ -10,9 +10,10 @@ use Rattle.exact.specs.Crossed.{countFrom}
 use Rattle.exact.proofs.CountFrom.{countFrom-next, countFrom-none}
 use Rattle.curves.specs.Grid.{Place}
 use Rattle.curves.proofs.Listed.{countFrom-listed}
-use Rattle.paper.specs.Job.{decodePlace, refuseIf}
-use Rattle.paper.specs.Operations.{Answer, refused, answered, unless}
-use Rattle.paper.proofs.Refusals.{refuse-here, refuse-later, unless-refused, unless-answered}
+use Rattle.paper.specs.Job.{decodePlace}
+use Rattle.paper.specs.Operations.{refused, answered, unless}
+use Rattle.paper.proofs.Refusals.{refuse-here, refuse-later}
+use Rattle.paper.proofs.PlaceLists.{part-is}
 use Rattle.job.specs.OpenJob.{JobOf}
 use Rattle.nesting.specs.Inside.{inside}
 use Rattle.nesting.specs.Standing.{some}
@@ -21,7 +22,7 @@ use Rattle.nesting.proofs.Standing.{member-some}
 use Rattle.loops.specs.declared.Past as Past
 use Rattle.loops.specs.Past.{beside, told, toldOf}
 use Rattle.cutorder.specs.Positions.{firstFrom, outerOf, comparedAt}
-use Rattle.cutorder.proofs.ListedPlaces.{part-is, listed-is}
+use Rattle.cutorder.proofs.ListedPlaces.{listed-is}
 
 -- ---- what one walk tells
 
@@ -70,7 +71,7 @@ pub walk-tells : {s : List ℕ} (ps : List ℕ) (job : JobOf 2 s) (k j : ℕ) {i
     → r ≡ toldOf s (decodePlace 2 inner) (decodePlace 2 outer) → r ≡ t
     → Tells s (listedAt s ps k) (listedAt s ps j) (isSame t) (isInside t)
 walk-tells {s} ps job k j d e f g =
-    tells (f ∙ ap₂ (toldOf s) (listed-is s ps job k (part-is s ps job k d)) (listed-is s ps job j (part-is s ps job j e))) (sym g)
+    tells (f ∙ ap₂ (toldOf s) (listed-is s ps job k (part-is s ps (job .dimension) k d)) (listed-is s ps job j (part-is s ps (job .dimension) j e))) (sym g)
 
 -- ---- position by position
 

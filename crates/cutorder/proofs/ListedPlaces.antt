@@ -1,15 +1,13 @@
 -- The places of a list by position, and their bytes as parts of the list.
-use Prim.Native.Nat.{ℕ, suc, zero, _+_, _*_, _-_, _/_, _≤_, _<_}
-use native.Mathlib.Nat.{le-div-iff-mul-le}
+use Prim.Native.Nat.{ℕ, suc, zero, _+_, _-_}
 use native.Mathlib.Omega.{arith}
-use mathlib.Core.Path.{_≡_, refl, sym, ap, ap₂, subst, _∙_}
+use mathlib.Core.Path.{_≡_, ap, ap₂, _∙_}
 use mathlib.Core.List.{List, [], _∷_, _++_, map}
-use lib.ListN.{length, take, drop}
+use lib.ListN.{length}
 use Rattle.exact.specs.Crossed.{countFrom}
 use Rattle.exact.proofs.CountFrom.{length-map-countFrom}
-use Rattle.curves.specs.Grid.{Place}
 use Rattle.paper.specs.Job.{dimension, decodePlace}
-use Rattle.paper.specs.Pen.{placeBytes, placeCount}
+use Rattle.paper.specs.Pen.{placeBytes}
 use Rattle.job.specs.OpenJob.{JobOf}
 use Rattle.nesting.specs.CutOrder.{listedAt, firstListed}
 
@@ -32,28 +30,7 @@ module _ (s ps : List ℕ) where
   unfolding firstListed
   listed-length k = length-map-countFrom (listedAt s ps) 0 k
 
-  -- ---- parts of the list
-
-  module _ (j : JobOf 2 s) where
-    pub count-is : length ps / 6 ≡ placeCount s ps
-    unfolding placeCount
-    count-is = ap (λ d. length ps / (3 * d)) (j .dimension)
-
-    -- place k lies within the list
-    pub place-ends : (k : ℕ) → k < length ps / 6 → 6 * k + 6 ≤ length ps
-    place-ends k h =
-        let some : 0 < 6 = omega arith in
-        let product : suc k * 6 ≤ length ps = le-div-iff-mul-le some .0 h in
-        omega arith
-
-    -- its bytes
-    pub part-is : (k : ℕ) {part : List ℕ} → part ≡ take (6 * k + 6 - 6 * k) (drop (6 * k) ps) → part ≡ placeBytes s ps k
-    unfolding placeBytes
-    part-is k q =
-        let whole : 6 * k + 6 - 6 * k ≡ 6 = omega arith in
-        q ∙ ap (λ l. take l (drop (6 * k) ps)) whole ∙ ap (λ d. take (3 * d) (drop (3 * d * k) ps)) (j .dimension)
-
-    -- the place that they are
-    pub listed-is : (k : ℕ) {part : List ℕ} → part ≡ placeBytes s ps k → decodePlace 2 part ≡ listedAt s ps k
-    unfolding listedAt
-    listed-is k e = ap₂ decodePlace (j .dimension) e
+  -- the place that its bytes are
+  pub listed-is : JobOf 2 s → (k : ℕ) {part : List ℕ} → part ≡ placeBytes s ps k → decodePlace 2 part ≡ listedAt s ps k
+  unfolding listedAt
+  listed-is j k e = ap₂ decodePlace (j .dimension) e

@@ -1,19 +1,18 @@
 -- The list gone through up to a position: none of those before it is refused, and the first of them with a later one inside it is known.
-use Prim.Native.Nat.{ℕ, suc, _+_, _-_, _/_, _≤_, _<_}
+use Prim.Native.Nat.{ℕ, suc, _+_, _-_, _≤_, _<_}
 use native.Mathlib.Omega.{arith}
 use mathlib.Core.Path.{_≡_, refl, sym, ap, subst, _∙_}
-use mathlib.Core.List.{List, []}
+use mathlib.Core.List.{List}
 use lib.ListN.{length}
 use Rattle.exact.specs.Crossed.{countFrom}
-use Rattle.paper.specs.Operations.{refused, answered, unless, firstRefusal, pointRefusal}
+use Rattle.paper.specs.Operations.{refused, answered, firstRefusal, pointRefusal}
 use Rattle.paper.specs.Pen.{placeBytes, placeCount}
 use Rattle.paper.proofs.Refusals.{first-refuses, first-passes, neither-refused, unless-refused, unless-answered, answered-inv}
-use Rattle.job.specs.OpenJob.{JobOf}
 use Rattle.nesting.specs.Standing.{stands, brokenAt, standing}
 use Rattle.nesting.specs.CutOrder.{loopInside, listedAt, firstListed, positionRefusal, positionsRefusal}
 use Rattle.cutorder.specs.Positions.{firstFrom, outerOf, atPosition, TakesUpTo, earlierOf, firstBroken, orderedIn}
 use Rattle.cutorder.proofs.Broken.{broken-last, standing-broken, standing-stands}
-use Rattle.cutorder.proofs.ListedPlaces.{listed-last, listed-length, count-is}
+use Rattle.cutorder.proofs.ListedPlaces.{listed-last, listed-length}
 use Rattle.cutorder.proofs.AtPosition.{refused-inv, takes-next}
 
 pub record Ordering (s ps : List ℕ) (first k : ℕ) : Type 0 where

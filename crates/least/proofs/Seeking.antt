@@ -1,9 +1,9 @@
 -- One turn of a walk with space for the whole box: what it tells of the rest of the trace.
 use Prim.Native.Nat.{ℕ}
 use native.Mathlib.Omega.{arith}
-use mathlib.Core.Path.{_≡_, refl, sym, ap, _∙_}
-use mathlib.Core.Bool.{Bool, true, false, not, _&&_}
-use mathlib.Core.List.{List, [], _∷_}
+use mathlib.Core.Path.{_≡_, ap, _∙_}
+use mathlib.Core.Bool.{true, false, not}
+use mathlib.Core.List.{List, _∷_}
 use lib.IntN.{ℤ}
 use lib.ListN.{length}
 use Rattle.curves.specs.Grid.{Facet, Place}
@@ -15,7 +15,6 @@ use Rattle.paper.specs.declared.Verdict as Code
 use Rattle.places.specs.Held.{placeAs}
 use Rattle.places.specs.declared.HeldPlace.{HeldPlace}
 use Rattle.carried.specs.declared.Entered.{Entered}
-use Rattle.carried.specs.Carries.{Carries}
 use Rattle.ahead.specs.Visited.{GoesOn}
 use Rattle.seamlist.specs.Seams.{facetBefore, noneBefore}
 use Rattle.seamlist.specs.JobSeams.{jobFacets}

@@ -12,7 +12,7 @@ use Rattle.curves.specs.Step.{columns}
 use Rattle.paper.specs.Job.{dimension}
 use Rattle.paper.specs.Values.{fieldOf}
 use Rattle.paper.specs.declared.Verdict as Verdict
-use Rattle.places.specs.Held.{facetAs, placeAs}
+use Rattle.places.specs.Held.{placeAs}
 use Rattle.places.specs.declared.HeldPlace.{HeldPlace}
 use Rattle.facets.specs.Cells.{Cells, facetColumns}
 use Rattle.step.specs.Held.{Held}

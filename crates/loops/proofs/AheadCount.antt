@@ -1,6 +1,6 @@
 -- Inside by one walk along the loop: the edges passed that are facets of the loop are as many as the facets of the loop that are edges ahead in
 -- the row. No facet stands twice in either list, and no edge of the loop leaves the box.
-use Prim.Native.Nat.{ℕ, suc, zero, _≤_}
+use Prim.Native.Nat.{ℕ, _≤_}
 use native.Mathlib.Omega.{arith}
 use mathlib.Core.Path.{_≡_, refl, sym, ap, subst, _∙_}
 use mathlib.Core.Bool.{Bool, true, false, cond, _&&_}
@@ -9,14 +9,14 @@ use lib.IntN.{ℤ, pos}
 use lib.ListN.{length}
 use lib.Signed.{leZ}
 use Rattle.exact.specs.Int.{_⊕_, _⊖_, 1ℤ}
-use Rattle.exact.specs.Crossed.{countFrom}
 use Rattle.exact.proofs.AndTests.{and-left, and-right, and-true}
 use Rattle.exact.proofs.Linear.{split, linear}
 use Rattle.curves.specs.Grid.{Vertex, Facet, sameMasks}
 use Rattle.curves.specs.Curve.{_∈_, NoDup, none, more}
 use Rattle.curves.specs.Box.{keep, between, span}
 use Rattle.curves.proofs.Finite.{between-listed, between-member}
-use Rattle.curves.proofs.Listed.{countFrom-from, keep-member, keep-listed, keep-differ}
+use Rattle.curves.proofs.Orders.{countFrom-differ}
+use Rattle.curves.proofs.Listed.{keep-member, keep-listed, keep-differ}
 use Rattle.curves.proofs.SameFacet.{leZ-refl, leZ-antisym, facet-path, sameMasks-sound, sameMasks-refl}
 use Rattle.curves.proofs.WalkLists.{no-dup-length}
 use Rattle.nesting.proofs.LoopBoundary.{among-listed, among-member}
@@ -52,12 +52,6 @@ map-differ f inj none = none
 map-differ f inj (more {x = x} {l = l} out rest) =
     more {x = f x} {l = map f l} (λ i. let w = Memᴰ·of-map f l i in out (Memᴰ·cast (sym (inj (w .0) x (w .2))) (w .1))) (map-differ f inj rest)
 
-count-differ : (k m : ℕ) → NoDup (countFrom k m)
-unfolding countFrom
-count-differ k zero = none
-count-differ k (suc m) =
-    let out : ¬ (k ∈ countFrom (suc k) m) = λ i. omega (arith, countFrom-from (suc k) m i) in more out (count-differ (suc k) m)
-
 add-injective : (x : ℤ) (k m : ℕ) → x ⊕ pos k ≡ x ⊕ pos m → k ≡ m
 add-injective x k m = rw (split x) (simp linear (omega arith))
 
@@ -72,7 +66,7 @@ edge-injective y a b e = ap first (ap (λ (f : Facet). f .low) e)
 passed-differ : (high x y : ℤ) → NoDup (edgesPassed high (x ∷ y ∷ []))
 unfolding edgesPassed between
 passed-differ high x y =
-    map-differ (edgeFrom y) (edge-injective y) (map-differ (λ k. x ⊕ pos k) (add-injective x) (count-differ 0 (span x (high ⊖ 1ℤ))))
+    map-differ (edgeFrom y) (edge-injective y) (map-differ (λ k. x ⊕ pos k) (add-injective x) (countFrom-differ 0 (span x (high ⊖ 1ℤ))))
 
 -- ---- the edges passed are the edges ahead in the row
 

@@ -1,9 +1,8 @@
 -- What the numbers of a held place say of edges ahead in a row.
-use mathlib.Core.Path.{_≡_, refl, sym, ap, ap₂, _∙_}
+use mathlib.Core.Path.{_≡_, sym, ap, ap₂, _∙_}
 use mathlib.Core.Bool.{Bool, true, false, not, _&&_}
 use mathlib.Core.List.{[], _∷_}
 use lib.IntN.{ℤ}
-use lib.Dec.{eqb}
 use lib.Signed.{leZ}
 use mir.Syntax.{w64}
 use mir.Val.{SFits}
@@ -15,7 +14,7 @@ use Rattle.places.specs.Held.{vertexAs, masksAs, facetAs}
 use Rattle.places.specs.declared.Vertex.{Vertex}
 use Rattle.places.specs.declared.HeldPlace.{HeldPlace}
 use Rattle.places.proofs.VertexBack.{heldBack}
-use Rattle.loops.specs.Past.{aheadInRow, edgeAhead, flips, beside}
+use Rattle.loops.specs.Past.{aheadInRow, edgeAhead, flips}
 
 -- numbers compared by their bits
 pub row-compared : {x y a b : ℤ} → SFits w64 x → SFits w64 y → SFits w64 a → SFits w64 b

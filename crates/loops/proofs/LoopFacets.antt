@@ -1,12 +1,11 @@
 -- The facets that a trace in a job of dimension 2 lists: none stands twice, and none leaves the box.
 use Prim.Native.Nat.{ℕ}
 use native.Mathlib.Omega.{arith}
-use mathlib.Core.Path.{_≡_, refl, sym, ap, subst, _∙_}
-use mathlib.Core.Bool.{Bool, true, false, _&&_}
+use mathlib.Core.Path.{_≡_, refl, sym, subst}
+use mathlib.Core.Bool.{Bool, true, _&&_}
 use mathlib.Core.List.{List, [], _∷_}
 use lib.IntN.{ℤ}
 use lib.ListN.{length}
-use lib.Dec.{T}
 use lib.Signed.{leZ, _≤ℤ_}
 use Rattle.exact.specs.Int.{_⊕_, _⊖_, 1ℤ}
 use Rattle.exact.proofs.AndTests.{and-left, and-right}
@@ -16,11 +15,11 @@ use Rattle.curves.specs.Curve.{_∈_, NoDup}
 use Rattle.curves.specs.Step.{every, readableAll}
 use Rattle.curves.specs.Joined.{Traceable}
 use Rattle.curves.proofs.GridStep.{accepted}
+use Rattle.curves.proofs.Finite.{test-le, le-test}
 use Rattle.curves.proofs.SameFacet.{facet-path}
 use Rattle.curves.proofs.Demand.{grid-demand3}
 use Rattle.paper.specs.Job.{dimension, body, lowEnd, highEnd}
 use Rattle.paper.specs.Values.{insideFrom, fieldFrom, fieldOf}
-use Rattle.paper.specs.Demand3.{facetsOf}
 use Rattle.seamlist.specs.Seams.{front, OnSeam}
 use Rattle.seamlist.specs.JobSeams.{jobFacets}
 use Rattle.seamlist.specs.WholeTrace.{wholeTrace}
@@ -45,11 +44,7 @@ less-one : (x h : ℤ) → x ⊕ 1ℤ ≤ℤ h → x ≤ℤ h ⊖ 1ℤ
 less-one x h = rw (split x, split h) (simp linear (omega arith))
 
 less-one-test : (x h : ℤ) → leZ (x ⊕ 1ℤ) h ≡ true → leZ x (h ⊖ 1ℤ) ≡ true
-less-one-test x h e = go (leZ x (h ⊖ 1ℤ)) (less-one x h (record { le = rw e tt }) .le)
-  where
-    go : (b : Bool) → T b → b ≡ true
-    go true t = refl
-    go false t = absurd t
+less-one-test x h e = le-test x (h ⊖ 1ℤ) (less-one x h (test-le (x ⊕ 1ℤ) h e))
 
 -- an edge along axis 1 whose far end is in the box
 edge-ends : (s : List ℕ) (x y : ℤ) → fieldOf s .inBox (plus (x ∷ y ∷ []) 1) ≡ true → leZ x (rowEnd s ⊖ 1ℤ) ≡ true

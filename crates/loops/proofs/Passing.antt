@@ -3,11 +3,11 @@
 use Prim.Native.Nat.{ℕ, _<_}
 use native.Mathlib.Omega.{arith}
 use mathlib.Core.Path.{_≡_, refl, sym, ap, subst, _∙_}
-use mathlib.Core.Bool.{Bool, true, false, not, cond, _||_}
+use mathlib.Core.Bool.{Bool, true, false, not, cond}
 use mathlib.Core.List.{List, [], _∷_, map}
 use lib.IntN.{ℤ}
 use lib.ListN.{length}
-use Rattle.curves.specs.Grid.{Facet, Place, sameFacet}
+use Rattle.curves.specs.Grid.{Place}
 use Rattle.curves.specs.Walk.{Verdict, Trace, ended, written, full, afterStep}
 use Rattle.curves.specs.Step.{Stop}
 use Rattle.curves.specs.Box.{keep}

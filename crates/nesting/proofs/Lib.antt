@@ -16,3 +16,4 @@ pub mod OrderLoops
 pub mod ListWritten
 pub mod JobOrder
 pub mod OrderAnswers
+pub mod Cases

@@ -2,66 +2,27 @@
 use Prim.Native.Nat.{ℕ, zero, suc, _+_, _*_, _/_, _%_, _≤_, _<_}
 use native.Mathlib.Omega.{arith}
 use mathlib.Core.Path.{_≡_, refl, sym, ap, _∙_, subst}
-use mathlib.Core.Bool.{Bool, true, false, not, _&&_, _||_, true≢false}
+use mathlib.Core.Bool.{Bool, true, false, not, _||_, true≢false}
 use mathlib.Core.List.{List, Memᴰ·of-map, Memᴰ·map}
 use lib.ListN.{length, take, drop, length-take, length-drop}
 use lib.Dec.{eqb}
 use borrow.Author.Tests.{eqb-true, eqb-false, eq-eqb, not-false}
 use Rattle.exact.specs.Crossed.{countFrom}
-use Rattle.exact.proofs.AndTests.{and-left, and-right, and-true}
-use Rattle.curves.specs.Grid.{Place, placeOk, facetVertices}
-use Rattle.curves.specs.Step.{every, readableAll}
+use Rattle.curves.specs.Grid.{Place}
 use Rattle.curves.specs.Joined.{Joined, Traceable}
 use Rattle.curves.proofs.Listed.{countFrom-listed, countFrom-under}
-use Rattle.curves.proofs.GridStep.{accepted, accepted-traceable}
-use Rattle.paper.specs.Job.{dimension, decodePlace}
+use Rattle.paper.specs.Job.{dimension}
 use Rattle.paper.specs.Values.{fieldOf}
-use Rattle.paper.specs.Operations.{facetRefusal, crossedIn, placeBad, facetOf, judgeRefusal, pointRefusal, answered}
+use Rattle.paper.specs.Operations.{answered}
 use Rattle.paper.specs.Pen.{placeBytes, placeCount}
 use Rattle.paper.proofs.Refusals.{not-refused, refuse-later, neither-refused, first-passes, answered-inv, unless-answered}
 use Rattle.paper.proofs.Opens.{Opens, opens}
 use Rattle.paper.proofs.WithStart.{opens-back}
+use Rattle.paper.proofs.PointTakes.{point-traceable, traceable-point}
 use Rattle.nesting.specs.Standing.{Standing, some, standing}
 use Rattle.nesting.specs.CutOrder.{onLoop, sameLoop, loopInside, listedAt, firstListed, positionRefusal, positionsRefusal, orderRefusal, ordered}
 use Rattle.nesting.proofs.Standing.{none-member, none-some}
 use Rattle.nesting.proofs.JobLoops.{same-loop-joined}
-
--- ---- one place, as Judge and Point have it
-
--- what Point does not refuse is traceable
-point-traceable : (s p : List ℕ) → pointRefusal s p ≡ 0 → Traceable (dimension s) (fieldOf s) (decodePlace (dimension s) p)
-unfolding pointRefusal judgeRefusal placeBad facetRefusal crossedIn facetOf readableAll
-point-traceable s p h =
-    let place : Place = decodePlace (dimension s) p in
-    let r = neither-refused _ _ h in
-    let r13 = not-refused _ 13 _ (omega arith) (neither-refused _ _ (r .first) .next) in
-    let r9 = not-refused _ 9 _ (omega arith) (r13 .next) in
-    let r10 = not-refused _ 10 _ (omega arith) (r9 .next) in
-    let r11 = not-refused _ 11 _ (omega arith) (r .next) in
-    let boxed : every (fieldOf s .inBox) (facetVertices (place .facet)) ≡ true = not-false _ (r9 .test) in
-    let read : every (fieldOf s .readable) (facetVertices (place .facet)) ≡ true = not-false _ (r10 .test) in
-    accepted-traceable (dimension s) (fieldOf s) place
-    record {
-      form = and-right (eqb (length p) (3 * dimension s)) (placeOk (dimension s) place) (not-false _ (r13 .test));
-      readable = and-true boxed read;
-      crosses = not-false _ (r11 .test);
-    }
-
--- and a traceable place of 3n bytes is not refused
-traceable-point : {s : List ℕ} → Opens s → (p : List ℕ) → length p ≡ 3 * dimension s → Traceable (dimension s) (fieldOf s) (decodePlace (dimension s) p)
-    → pointRefusal s p ≡ 0
-unfolding pointRefusal judgeRefusal placeBad facetRefusal crossedIn facetOf readableAll
-traceable-point {s} o p e t =
-    let place : Place = decodePlace (dimension s) p in
-    let a = accepted (dimension s) (fieldOf s) place t in
-    let boxed : Bool = every (fieldOf s .inBox) (facetVertices (place .facet)) in
-    let read : Bool = every (fieldOf s .readable) (facetVertices (place .facet)) in
-    let good : eqb (length p) (3 * dimension s) && placeOk (dimension s) place ≡ true = and-true (eq-eqb (length p) (3 * dimension s) e) (a .form) in
-    first-passes _
-    (first-passes _ (opens-back s o)
-    ∙ (refuse-later 13 _ (ap not good)
-    ∙ (refuse-later 9 _ (ap not (and-left boxed read (a .readable))) ∙ refuse-later 10 0 (ap not (and-right boxed read (a .readable))))))
-    ∙ refuse-later 11 0 (ap not (a .crosses))
 
 -- ---- one position
 

@@ -14,12 +14,12 @@ use Rattle.curves.specs.Grid.{Vertex, Facet, facetVertices, plus}
 use Rattle.curves.specs.Curve.{_∈_}
 use Rattle.curves.specs.Box.{keep, between}
 use Rattle.curves.proofs.Listed.{keep-member}
-use Rattle.curves.proofs.Finite.{between-member}
+use Rattle.curves.proofs.Finite.{between-member, test-le}
 use Rattle.curves.proofs.SameFacet.{leZ-refl}
 use Rattle.seamlist.proofs.FacetOrder.{less-le, not-le-less}
 use Rattle.nesting.specs.Inside.{edgeFrom, edgesPassed, among, odd, inside}
 use Rattle.nesting.specs.Loops.{firstOf, greatest, verticesOf, greatestX}
-use Rattle.nesting.proofs.WholeOrder.{test-le, le-trans}
+use Rattle.nesting.proofs.WholeOrder.{le-trans}
 use Rattle.nesting.proofs.LoopBoundary.{among-member}
 
 -- ---- the greatest of some numbers

@@ -14,7 +14,8 @@ use Rattle.nesting.specs.Loops.{PutIn, Reordered, Apart}
 use Rattle.nesting.specs.Loops.PutIn.{here, later}
 use Rattle.nesting.specs.Loops.Reordered.{put}
 use Rattle.nesting.specs.Loops.Apart.{none, more}
-use Rattle.nesting.proofs.WholeOrder.{test-le, le-trans}
+use Rattle.curves.proofs.Finite.{test-le}
+use Rattle.nesting.proofs.WholeOrder.{le-trans}
 use Rattle.nesting.proofs.Standing.{NotInside, apart-stands}
 
 -- ---- members

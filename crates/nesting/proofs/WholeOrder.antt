@@ -1,15 +1,11 @@
--- The order of whole numbers: its test, and two laws.
+-- The order of whole numbers: two laws.
 use native.Mathlib.Omega.{arith}
-use mathlib.Core.Path.{_≡_, sym, _∙_}
-use mathlib.Core.Bool.{true, true≢false}
+use mathlib.Core.Path.{sym, _∙_}
+use mathlib.Core.Bool.{true≢false}
 use lib.IntN.{ℤ}
-use lib.Signed.{leZ, _≤ℤ_, _<ℤ_}
+use lib.Signed.{_≤ℤ_, _<ℤ_}
 use Rattle.exact.proofs.Linear.{split, linear}
 use Rattle.seamlist.proofs.FacetOrder.{less-le, less-not-le}
-
--- the test of order as a fact
-pub test-le : (x y : ℤ) → leZ x y ≡ true → x ≤ℤ y
-test-le x y e = record { le = rw e tt }
 
 -- a chain of two
 pub le-trans : (x y z : ℤ) → x ≤ℤ y → y ≤ℤ z → x ≤ℤ z

@@ -23,7 +23,9 @@ use Rattle.numbers.specs.declared.GroundAnswer.{GroundAnswer}
 use Rattle.numbers.specs.declared.PointAnswer.{PointAnswer}
 use Rattle.numbers.specs.declared.StepAnswer.{StepAnswer}
 use Rattle.seamlist.specs.JobSeams.{Extent, complete, full}
+use Rattle.nesting.specs.Standing.{Standing, stands, brokenAt}
 use Rattle.numbers.specs.declared.SeamsAnswer.{SeamsAnswer}
+use Rattle.numbers.specs.declared.OrderAnswer.{OrderAnswer}
 use Rattle.numbers.specs.declared.TraceAnswer.{TraceAnswer}
 use Rattle.numbers.specs.declared.PenAnswer.{PenAnswer}
 use Rattle.numbers.specs.declared.SumAnswer.{SumAnswer}
@@ -142,6 +144,16 @@ extentNumber full = 1
 unfoldable pub seamsNumbers : Answer (Extent × ℕ) → SeamsAnswer
 seamsNumbers (refused k) = record { refusal = k; full = 0; count = 0 }
 seamsNumbers (answered r) = record { refusal = 0; full = extentNumber (r .0); count = r .1 }
+
+-- ---- the order of cutting
+
+-- 1 the order stands; else 0 and the position
+unfoldable pub orderNumbers : Answer Standing → OrderAnswer
+orderNumbers (refused k) = record { refusal = k; stands = 0; position = 0 }
+orderNumbers (answered stands) = record { refusal = 0; stands = 1; position = 0 }
+orderNumbers (answered (brokenAt k)) = record { refusal = 0; stands = 0; position = k }
+
+-- ---- Pen and the running sum
 
 -- a mark is set by any number but 0
 unfoldable pub isSet : ℕ → Bool

@@ -3,6 +3,7 @@
 // where an answer does not use a field, the field is 0.
 
 use grounds::JudgedBy;
+use nesting::Ordered;
 use paper::Judged;
 use paper::Opened;
 use paper::PenMove;
@@ -19,7 +20,8 @@ ghost use Rattle.paper.specs.Pen.{pennedAs};
 ghost use Rattle.grounds.specs.Judged.{judgedByAs};
 ghost use Rattle.numbers.specs.Numbers.{openNumbers, judgeNumbers, withoutPowers, withPowers, groundNumbers, pointNumbers};
 ghost use Rattle.seamlist.specs.Answers.{seamedAs};
-ghost use Rattle.numbers.specs.Numbers.{seamsNumbers};
+ghost use Rattle.nesting.specs.Answers.{orderedAs};
+ghost use Rattle.numbers.specs.Numbers.{seamsNumbers, orderNumbers};
 ghost use Rattle.numbers.specs.Numbers.{withoutPlace, stepNumbers, verdictNumber, traceNumbers, withoutPoint, penNumbers, sumNumbers};
 
 #[repr(C)]
@@ -97,6 +99,14 @@ pub struct SeamsAnswer {
     pub refusal: u64,
     pub full: u64,
     pub count: u64,
+}
+
+// Stands 1: the order stands; 0: it does not, and `position` is the first whose loop has a later listed loop inside it.
+#[repr(C)]
+pub struct OrderAnswer {
+    pub refusal: u64,
+    pub stands: u64,
+    pub position: u64,
 }
 
 // Kind 0: lift; 1: draw; 2: close. In millimetres.
@@ -330,6 +340,29 @@ pub fn seams_numbers(answer: Seamed) -> SeamsAnswer
             refusal: 0,
             full: 1,
             count: seams,
+        },
+    }
+}
+
+// The answer of the order of cutting.
+pub fn order_numbers(answer: Ordered) -> OrderAnswer
+    ensures { λ r. ⌜ r ≡ orderNumbers (orderedAs answer) ⌝ }
+{
+    match answer {
+        Ordered::Refused(refusal) => OrderAnswer {
+            refusal,
+            stands: 0,
+            position: 0,
+        },
+        Ordered::Stands => OrderAnswer {
+            refusal: 0,
+            stands: 1,
+            position: 0,
+        },
+        Ordered::Broken(position) => OrderAnswer {
+            refusal: 0,
+            stands: 0,
+            position,
         },
     }
 }

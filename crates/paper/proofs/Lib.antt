@@ -18,6 +18,8 @@ pub mod ShortPlaces
 pub mod WordBytes
 pub mod Encode
 pub mod WithStart
+pub mod PointTakes
+pub mod PlaceLists
 pub mod BiasedValues
 pub mod OtherBias
 pub mod StartTraceable

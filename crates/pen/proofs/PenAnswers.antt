@@ -1,6 +1,5 @@
 -- What each return of Pen says, as the paper's answer. n is the job's dimension, as the code holds it.
-use Prim.Native.Nat.{ℕ, suc, _+_, _*_, _-_, _/_, _%_, _≤_, _<_}
-use native.Mathlib.Nat.{le-div-iff-mul-le}
+use Prim.Native.Nat.{ℕ, _+_, _*_, _-_, _/_, _%_, _≤_, _<_}
 use native.Mathlib.Omega.{arith}
 use mathlib.Core.Path.{_≡_, sym, ap, subst, _∙_}
 use mathlib.Core.Bool.{Bool, true, false, not, cond}
@@ -12,18 +11,9 @@ use Rattle.paper.specs.Job.{dimension, refuseIf, openRefusal}
 use Rattle.paper.specs.Operations.{refused, answered, unless, pointRefusal}
 use Rattle.paper.specs.Pen.{close, placeBytes, placeCount, pointMillimetres, closes, penRefusal, penMove, penned}
 use Rattle.paper.proofs.Refusals.{first-refuses, first-passes, refuse-here, refuse-later, unless-refused, unless-answered}
+use Rattle.paper.proofs.PlaceLists.{count-is, part-is}
 use Rattle.job.specs.OpenJob.{JobOf}
 use Rattle.pen.specs.Moves.{closesAt, moveTo, movedTo}
-
--- ---- sizes
-
--- place k of a list of places lies within it
-pub place-ends : (size k : ℕ) (ps : List ℕ) → 0 < size → k < length ps / size → size * k + size ≤ length ps
-place-ends size k ps p h =
-    let product : suc k * size ≤ length ps = le-div-iff-mul-le p .0 h in
-    omega arith
-
--- ---- the answers
 
 module _ (s ps : List ℕ) (mark : Bool) (k : ℕ) where
   -- a refusal's number is the answer
@@ -52,13 +42,9 @@ module _ (s ps : List ℕ) (mark : Bool) (k : ℕ) where
         (omega arith)
 
     module _ (even : length ps % (3 * n) ≡ 0) where
-      count-is : length ps / (3 * n) ≡ placeCount s ps
-      unfolding placeCount
-      count-is = ap (λ d. length ps / (3 * d)) e
-
       closes-is : closesAt (length ps / (3 * n)) mark k ≡ closes s ps mark k
       unfolding closesAt closes
-      closes-is = ap (λ c. closesAt c mark k) count-is
+      closes-is = ap (λ c. closesAt c mark k) (count-is s ps e)
 
       -- behind the test of the length
       past-length :
@@ -87,18 +73,12 @@ module _ (s ps : List ℕ) (mark : Bool) (k : ℕ) where
         pub pen-past : length ps / (3 * n) ≤ k → refused 12 ≡ penned s ps mark k
         pen-past h =
             refusal-answers 12
-            (past-close ∙ refuse-here 12 _ (ap not (le-ltb k (placeCount s ps) (subst (λ c. c ≤ k) count-is h))))
+            (past-close ∙ refuse-here 12 _ (ap not (le-ltb k (placeCount s ps) (subst (λ c. c ≤ k) (count-is s ps e) h))))
             (omega arith)
 
         module _ (h : k < length ps / (3 * n)) where
-          part-is : (part : List ℕ) → part ≡ take (3 * n * k + 3 * n - 3 * n * k) (drop (3 * n * k) ps) → part ≡ placeBytes s ps k
-          unfolding placeBytes
-          part-is part q =
-              let whole : 3 * n * k + 3 * n - 3 * n * k ≡ 3 * n = omega arith in
-              q ∙ ap (λ l. take l (drop (3 * n * k) ps)) whole ∙ ap (λ d. take (3 * d) (drop (3 * d * k) ps)) e
-
           refusal-is : penRefusal s ps mark k ≡ pointRefusal s (placeBytes s ps k)
-          refusal-is = past-close ∙ refuse-later 12 _ (ap not (lt-ltb k (placeCount s ps) (subst (λ m. k < m) count-is h)))
+          refusal-is = past-close ∙ refuse-later 12 _ (ap not (lt-ltb k (placeCount s ps) (subst (λ m. k < m) (count-is s ps e) h)))
 
           move-is : penMove s ps mark k ≡ moveTo k (pointMillimetres s (placeBytes s ps k))
           unfolding penMove moveTo
@@ -109,4 +89,4 @@ module _ (s ps : List ℕ) (mark : Bool) (k : ℕ) where
               (part : List ℕ) → part ≡ take (3 * n * k + 3 * n - 3 * n * k) (drop (3 * n * k) ps)
               → movedTo s part k ≡ penned s ps mark k
           unfolding penned movedTo
-          pen-at part q = ap (λ p. movedTo s p k) (part-is part q) ∙ sym (λ i. unless (refusal-is i) (move-is i))
+          pen-at part q = ap (λ p. movedTo s p k) (part-is s ps e k q) ∙ sym (λ i. unless (refusal-is i) (move-is i))

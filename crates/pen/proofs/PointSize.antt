@@ -7,52 +7,27 @@ use mathlib.Core.Bool.{true}
 use mathlib.Core.List.{List, [], _∷_, map}
 use lib.IntN.{ℤ, natAbs}
 use lib.ListN.{length, getD, length-map}
-use lib.Dec.{eqb}
-use borrow.Author.Tests.{leb-true, not-false}
-use Rattle.exact.proofs.AndTests.{and-left, and-right, and-true}
+use borrow.Author.Tests.{leb-true}
+use Rattle.exact.proofs.AndTests.{and-left, and-right}
 use Rattle.exact.specs.Int.{0ℤ, 1ℤ}
 use Rattle.exact.specs.Size.{Size}
 use Rattle.exact.specs.Det.{Column, determinant}
 use Rattle.exact.proofs.SizeLaws.{size-pos, size-add, size-mul}
-use Rattle.curves.specs.Grid.{Vertex, Facet, Place, facetVertices, plus, placeOk}
-use Rattle.curves.specs.Step.{Field, column, columns, every, readableAll, crossedFacet}
+use Rattle.curves.specs.Grid.{Vertex, Facet, Place, facetVertices, plus}
+use Rattle.curves.specs.Step.{Field, column, columns, every, crossedFacet}
 use Rattle.curves.proofs.GridStep.{Accepted, accepted-traceable}
 use Rattle.curves.proofs.IncidenceOf.{place-formed, place-dimension}
 use Rattle.paper.specs.Limits.{coordinateLimit, stepsPerUnit}
 use Rattle.paper.specs.Job.{dimension, decodePlace}
 use Rattle.paper.proofs.ShortPlaces.{limited}
 use Rattle.paper.specs.Values.{fieldOf, weightSum, coordinateSteps, pointFrom, pointOf}
-use Rattle.paper.specs.Operations.{facetRefusal, crossedIn, placeBad, facetOf, judgeRefusal, pointRefusal}
+use Rattle.paper.specs.Operations.{facetOf, pointRefusal}
 use Rattle.paper.specs.Answers.{padded}
-use Rattle.paper.proofs.Refusals.{neither-refused, not-refused}
-use Rattle.paper.proofs.Opens.{Opens, opens}
 use Rattle.paper.proofs.StartTraceable.{traceable-limited}
+use Rattle.paper.proofs.PointTakes.{point-opens, point-accepted}
 use Rattle.points.specs.Shares.{Share}
 use Rattle.points.proofs.Shares.{crossed-share}
 use Rattle.points.proofs.Rounded.{share-size}
-
--- ---- what Point does not refuse
-
-point-opens : (s p : List ℕ) → pointRefusal s p ≡ 0 → Opens s
-unfolding pointRefusal judgeRefusal
-point-opens s p h = opens s (neither-refused _ _ (neither-refused _ _ h .first) .first)
-
-point-accepted : (s p : List ℕ) → pointRefusal s p ≡ 0 → Accepted (dimension s) (fieldOf s) (decodePlace (dimension s) p)
-unfolding pointRefusal judgeRefusal placeBad facetRefusal crossedIn facetOf readableAll
-point-accepted s p h =
-    let place : Place = decodePlace (dimension s) p in
-    let r = neither-refused _ _ h in
-    let r13 = not-refused _ 13 _ (omega arith) (neither-refused _ _ (r .first) .next) in
-    let r9 = not-refused _ 9 _ (omega arith) (r13 .next) in
-    let r10 = not-refused _ 10 _ (omega arith) (r9 .next) in
-    let r11 = not-refused _ 11 _ (omega arith) (r .next) in
-    let boxed : every (fieldOf s .inBox) (facetVertices (place .facet)) ≡ true = not-false _ (r9 .test) in
-    let read : every (fieldOf s .readable) (facetVertices (place .facet)) ≡ true = not-false _ (r10 .test) in
-    record {
-      form = and-right (eqb (length p) (3 * dimension s)) (placeOk (dimension s) place) (not-false _ (r13 .test));
-      readable = and-true boxed read;
-      crosses = not-false _ (r11 .test);
-    }
 
 -- ---- one coordinate
 

@@ -4,7 +4,7 @@ use borrow.Author.Needs.{needs}
 use mathlib.Core.Path.{refl, sym, ap, _∙_}
 use Rattle.paper.specs.Answers.{tracedAs}
 use Rattle.cutorder.specs.Positions.{positionAs}
-use Rattle.cutorder.proofs.ListedPlaces.{part-is}
+use Rattle.paper.proofs.PlaceLists.{part-is}
 use Rattle.cutorder.proofs.AtPosition.{at-refused, at-taken, at-no-loop, at-loop, takes-next}
 use Rattle.cutorder.proofs.at_position.Statement.{statement}
 use Rattle.cutorder.proofs.at_position.Tie as tie
@@ -29,7 +29,7 @@ unfolding tracedAs
 compared-requires c κs =
     let a = c .before .before .before .before .before .before .before .before .before .args in
     let pre = c .before .before .before .before .before .before .before .before .before .pre in
-    let is = part-is (a .job .now) (a .places .now) (pre .0) (a .k) refl in
+    let is = part-is (a .job .now) (a .places .now) (pre .0 .dimension) (a .k) refl in
     let t = at-taken (a .job .now) (a .places .now) (a .k) is (ap tracedAs (sym (c .before .before .before .verdict .given .1)) ∙ c .before .before .before .before .before .trace-length .ensures) in
     (pre .0, pre .1, takes-next (a .job .now) (a .places .now) (a .k) (pre .2) (t .none))
 
@@ -37,7 +37,7 @@ returns : tie.Need-returns
 unfolding tracedAs
 returns c =
     let a = c .before .before .before .before .before .before .before .before .before .before .args in
-    let is = part-is (a .job .now) (a .places .now) (c .before .before .before .before .before .before .before .before .before .before .pre .0) (a .k) refl in
+    let is = part-is (a .job .now) (a .places .now) (c .before .before .before .before .before .before .before .before .before .before .pre .0 .dimension) (a .k) refl in
     let t = at-taken (a .job .now) (a .places .now) (a .k) is (ap tracedAs (sym (c .before .before .before .before .verdict .given .1)) ∙ c .before .before .before .before .before .before .trace-length .ensures) in
     c .compared .ensures ∙ at-loop t (sym (c .before .before .is-loop .ensures) ∙ c .before .if1 .taken)
 
@@ -45,14 +45,14 @@ returns-2 : tie.Need-returns-2
 unfolding tracedAs positionAs
 returns-2 c =
     let a = c .before .before .before .before .before .before .before .args in
-    let is = part-is (a .job .now) (a .places .now) (c .before .before .before .before .before .before .before .pre .0) (a .k) refl in
+    let is = part-is (a .job .now) (a .places .now) (c .before .before .before .before .before .before .before .pre .0 .dimension) (a .k) refl in
     at-refused (a .job .now) (a .places .now) (a .k) is _ (ap tracedAs (sym (c .before .number .given .1)) ∙ c .before .before .before .trace-length .ensures)
 
 returns-3 : tie.Need-returns-3
 unfolding tracedAs positionAs
 returns-3 c =
     let a = c .before .before .before .before .before .before .before .before .before .args in
-    let is = part-is (a .job .now) (a .places .now) (c .before .before .before .before .before .before .before .before .before .pre .0) (a .k) refl in
+    let is = part-is (a .job .now) (a .places .now) (c .before .before .before .before .before .before .before .before .before .pre .0 .dimension) (a .k) refl in
     let t = at-taken (a .job .now) (a .places .now) (a .k) is (ap tracedAs (sym (c .before .before .before .verdict .given .1)) ∙ c .before .before .before .before .before .trace-length .ensures) in
     at-no-loop t (sym (c .before .is-loop .ensures) ∙ c .if1 .left)
 

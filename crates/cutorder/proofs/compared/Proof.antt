@@ -1,12 +1,12 @@
 -- `cutorder::compared` meets its contract. The invariant: of the positions from j on up to k none has the same loop, and the first of them around
 -- that of k is known. The measure is j.
-use Prim.Native.Nat.{suc, _-_}
+use Prim.Native.Nat.{_-_}
 use native.Mathlib.Omega.{arith}
 use borrow.Author.Needs.{needs}
 use mathlib.Core.Path.{refl, ap, _∙_}
 use Rattle.paper.specs.Operations.{pointRefusal}
 use Rattle.cutorder.specs.Positions.{positionAs}
-use Rattle.cutorder.proofs.ListedPlaces.{part-is}
+use Rattle.paper.proofs.PlaceLists.{part-is}
 use Rattle.cutorder.proofs.Comparing.{isSame, isInside, walk-tells, Comparing, comparing-begins, comparing-on, compared-same, compared-all}
 use Rattle.cutorder.proofs.compared.Statement.{statement}
 use Rattle.cutorder.proofs.compared.Tie as tie
@@ -55,8 +55,8 @@ walk-along-requires c κs =
     let s = a .job .now in (
       pre .0,
       (
-        ap (pointRefusal s) (part-is s (a .places .now) (pre .0) (loop .j - 1) refl) ∙ pre .2 (loop .j - 1) (omega (arith, loop .inv .below, c .before .loop-test .taken)),
-        ap (pointRefusal s) (part-is s (a .places .now) (pre .0) (a .k) refl) ∙ pre .2 (a .k) (omega arith),
+        ap (pointRefusal s) (part-is s (a .places .now) (pre .0 .dimension) (loop .j - 1) refl) ∙ pre .2 (loop .j - 1) (omega (arith, loop .inv .below, c .before .loop-test .taken)),
+        ap (pointRefusal s) (part-is s (a .places .now) (pre .0 .dimension) (a .k) refl) ∙ pre .2 (a .k) (omega arith),
       ),
     )
 

@@ -1,14 +1,13 @@
 -- `cutorder::order_in` meets its contract. The invariant: of the positions before k none is refused, and the first of them with a later one inside it
 -- is known. The measure is the number of positions left.
-use Prim.Native.Nat.{_-_, _/_}
+use Prim.Native.Nat.{_-_}
 use native.Mathlib.Omega.{arith}
 use borrow.Author.Needs.{needs}
 use mathlib.Core.Path.{_≡_, sym, ap, subst, _∙_}
-use lib.ListN.{length}
 use Rattle.paper.specs.Pen.{placeCount}
 use Rattle.nesting.specs.Answers.{orderedAs}
 use Rattle.cutorder.specs.Positions.{positionAs}
-use Rattle.cutorder.proofs.ListedPlaces.{count-is, place-ends}
+use Rattle.paper.proofs.PlaceLists.{place-ends, count-is}
 use Rattle.cutorder.proofs.Ordering.{Ordering, ordering-begins, ordering-refused, ordering-on, ordering-broken, ordering-stands}
 use Rattle.cutorder.proofs.order_in.Statement.{statement}
 use Rattle.cutorder.proofs.order_in.Tie as tie
@@ -22,13 +21,13 @@ abbrev μ-loop : tie.MeasureT-loop
 loop-holds : tie.Need-loop-holds Inv-loop μ-loop
 loop-holds c =
     let a = c .before .before .args in
-    let is = count-is (a .job .now) (a .places .now) (c .before .before .pre) in
+    let is = count-is (a .job .now) (a .places .now) (c .before .before .pre .dimension) in
     (subst (λ m. Ordering (a .job .now) (a .places .now) m 0) (sym is) (ordering-begins (a .job .now) (a .places .now)), is)
 
 at-position-requires : tie.Need-at-position-requires Inv-loop μ-loop
 at-position-requires c κs =
     let a = c .before .before .before .before .args in
-    (c .before .before .before .before .pre, place-ends (a .job .now) (a .places .now) (c .before .before .before .before .pre) (c .before .loop .k) (c .loop-test .taken), c .before .loop .inv .0 .takes)
+    (c .before .before .before .before .pre, place-ends 6 (c .before .loop .k) (a .places .now) (omega arith) (omega (arith, c .loop-test .taken)), c .before .loop .inv .0 .takes)
 
 returns : tie.Need-returns Inv-loop μ-loop
 unfolding positionAs orderedAs

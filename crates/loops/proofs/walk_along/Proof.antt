@@ -1,12 +1,14 @@
 -- `loops::walk_along` meets its contract: both places are read, and the walk begins at the outer one.
+use Prim.Native.Nat.{_*_}
 use mathlib.Core.Path.{sym, ap, _∙_}
+use Rattle.paper.proofs.PointTakes.{point-length}
 use Rattle.places.specs.Held.{placeAs}
 use Rattle.job.proofs.OpenJob.{job-axes, job-dimension}
 use Rattle.columns.proofs.FacetColumns.{zero-cells}
 use Rattle.step.proofs.HeldPlaces.{held-form}
 use Rattle.step.proofs.CrossingHeld.{found-place, found-held}
 use Rattle.lengths.proofs.LengthAnswers.{place-carries}
-use Rattle.loops.proofs.GivenPlaces.{taken-length, told-of-given}
+use Rattle.loops.proofs.GivenPlaces.{told-of-given}
 use Rattle.loops.proofs.walk_along.Statement.{statement}
 use Rattle.loops.proofs.walk_along.Tie as tie
 
@@ -14,7 +16,7 @@ crossing-in-requires : tie.Need-crossing-in-requires
 crossing-in-requires c κs = let j = c .before .before .before .before .pre .0 in (j, zero-cells (job-axes j))
 
 read-place-requires : tie.Need-read-place-requires
-read-place-requires c κs = let pre = c .before .before .before .before .before .pre in (job-axes (pre .0), taken-length _ (pre .0) (pre .1 .1))
+read-place-requires c κs = let pre = c .before .before .before .before .before .pre in (job-axes (pre .0), point-length _ _ (pre .1 .1) ∙ ap (λ d. 3 * d) (sym (pre .0 .dimension)))
 
 enter-requires : tie.Need-enter-requires
 enter-requires c κs =

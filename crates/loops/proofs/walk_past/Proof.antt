@@ -3,7 +3,7 @@
 use borrow.Author.Needs.{needs}
 use mathlib.Core.Path.{ap, subst, _∙_}
 use lib.ListN.{length}
-use Rattle.places.specs.Held.{vertexAs, facetAs, placeAs}
+use Rattle.places.specs.Held.{facetAs, placeAs}
 use Rattle.job.proofs.OpenJob.{job-axes}
 use Rattle.carried.specs.Carries.{Carries}
 use Rattle.ahead.specs.Visited.{VisitedIs}

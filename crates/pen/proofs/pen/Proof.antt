@@ -6,7 +6,8 @@ use borrow.Author.Needs.{needs}
 use Rattle.paper.specs.Pen.{moveAs, pennedAs}
 use Rattle.job.specs.OpenJob.{JobOf}
 use Rattle.job.proofs.OpenJob.{job-axes, opened}
-use Rattle.pen.proofs.PenAnswers.{place-ends, pen-not-opened, pen-uneven, pen-closes, pen-past, pen-at}
+use Rattle.paper.proofs.PlaceLists.{place-ends}
+use Rattle.pen.proofs.PenAnswers.{pen-not-opened, pen-uneven, pen-closes, pen-past, pen-at}
 use Rattle.pen.proofs.pen.Statement.{statement}
 use Rattle.pen.proofs.pen.Tie as tie
 
