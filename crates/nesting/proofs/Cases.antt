@@ -68,9 +68,9 @@ other-row = refl
 
 -- ---- the position, where a smaller number is inside a larger
 
-pub rising : standing ltb (1 ∷ 2 ∷ 3 ∷ []) ≡ stands
+pub rising-order : standing ltb (1 ∷ 2 ∷ 3 ∷ []) ≡ stands
 unfolding orderOf
-rising = refl
+rising-order = refl
 
 -- of two positions with a later one inside them the first
 pub first-of-two : standing ltb (2 ∷ 5 ∷ 4 ∷ 3 ∷ []) ≡ brokenAt 1
