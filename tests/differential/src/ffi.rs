@@ -9,6 +9,7 @@ use reference::grid::{vertex, Vertex};
 use reference::ground::Ground;
 use reference::limits::MOST;
 use reference::operations::{Move, Step, Verdict};
+use reference::order::CutOrder;
 use reference::product::Product;
 use reference::seams::Ending;
 
@@ -94,6 +95,14 @@ struct SeamsAnswer {
 
 #[repr(C)]
 #[derive(Clone, Copy, PartialEq, Debug)]
+struct OrderAnswer {
+    refusal: u64,
+    stands: u64,
+    position: u64,
+}
+
+#[repr(C)]
+#[derive(Clone, Copy, PartialEq, Debug)]
 struct PenAnswer {
     refusal: u64,
     kind: u64,
@@ -173,6 +182,12 @@ extern "C" {
         buffer: *mut u8,
         buffer_len: usize,
     ) -> SeamsAnswer;
+    fn gethwapiko_cut_order(
+        job: *const u8,
+        job_len: usize,
+        places: *const u8,
+        places_len: usize,
+    ) -> OrderAnswer;
 }
 
 /// The refusal, if there is one, with the rest of the answer checked to be 0.
@@ -369,5 +384,17 @@ impl Product for Library {
         refused(a.refusal, (a.full, a.count) == (0, 0))?;
         let ending = if mark(a.full) { Ending::Full } else { Ending::Complete };
         Ok((ending, a.count as usize))
+    }
+
+    #[inline]
+    fn cut_order(&self, job: &[u8], list: &[u8]) -> Result<CutOrder, u8> {
+        let (at, length) = (list.as_ptr(), list.len());
+        let a = unsafe { gethwapiko_cut_order(job.as_ptr(), job.len(), at, length) };
+        refused(a.refusal, (a.stands, a.position) == (0, 0))?;
+        if mark(a.stands) {
+            assert_eq!(a.position, 0, "a field that is not used is 0");
+            return Ok(CutOrder::Stands);
+        }
+        Ok(CutOrder::Breaks(a.position as usize))
     }
 }

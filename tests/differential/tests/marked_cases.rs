@@ -1,5 +1,6 @@
 //! Cases A to J, their like in dimension 4 and at a bias, running sums, halves of a step, grounds,
-//! the small cutter, the list of seams, and the wrong turns on the proved library.
+//! the small cutter, the list of seams, the order of cutting, and the wrong turns on the proved
+//! library.
 
 use library::ffi::Library;
 use reference::marked;
@@ -42,6 +43,11 @@ fn small_cutter() {
 #[test]
 fn seams() {
     marked::seams(&Library);
+}
+
+#[test]
+fn order() {
+    marked::order(&Library);
 }
 
 #[test]

@@ -1,12 +1,14 @@
 //! "Marked cases" A to J, their like in dimension 4 and at a bias, running sums, halves of a step,
-//! grounds, the small cutter, the list of seams, and the wrong turns, as checks of any product.
+//! grounds, the small cutter, the list of seams, the order of cutting, and the wrong turns, as
+//! checks of any product.
 
-use crate::build::{case_a, case_c, exponents, gathered, place, power_of, term, Parts};
+use crate::build::{case_a, case_c, exponents, gathered, place, power_of, product, term, Parts};
 use crate::crossed::Term;
 use crate::grid::{vertex, Place};
 use crate::ground::{holds, names_the_first, says_crossed, Coefficients, Ground};
 use crate::limits::{Limits, DIMENSIONS};
 use crate::operations::{with_start, Move, Step, Verdict};
+use crate::order::CutOrder;
 use crate::product::Product;
 use crate::seams::Ending;
 
@@ -1177,6 +1179,211 @@ fn refusals_of_seams(p: &dyn Product, n: usize) {
     unreadable.start.facet.lowest[0] = 20;
     assert_eq!(p.trace(&unreadable.bytes(), &mut []), Err(10));
     assert_eq!(refused(&unreadable.bytes()), None);
+}
+
+/// (2 x^2 + 2 y^2 - 1) (x^2 + y^2 - 3): case A's loop, in one around the nine vertices whose
+/// coordinates are at most 1 in size.
+fn one_in_another() -> Parts {
+    let inner = [term(-1, &[]), term(2, &[0, 2]), term(2, &[2])];
+    let outer = [term(-3, &[]), term(1, &[0, 2]), term(1, &[2])];
+    Parts { ends: vec![(-2, 2); 2], polynomials: vec![product(&inner, &outer)], ..case_a() }
+}
+
+/// (x^2 + y^2 - 15) (1 - 2 (x + y)^2) is below 0 in the circle at the five vertices from (-2, 2) to
+/// (2, -2) alone, and outside it above 0 from (-6, 6) to (-3, 3) and from (3, -3) to (6, -6) alone.
+/// Of these (-3, 3) and (3, -3) are beside vertices of the circle that are above 0. Each of the
+/// others has a loop around it, but the two at corners of the box, which have an open curve.
+fn five_in_another() -> Parts {
+    let circle = [term(-15, &[]), term(1, &[0, 2]), term(1, &[2])];
+    let line = [term(1, &[]), term(-2, &[0, 2]), term(-4, &[1, 1]), term(-2, &[2])];
+    Parts { ends: vec![(-6, 6); 2], polynomials: vec![product(&circle, &line)], ..case_a() }
+}
+
+/// x (1 - (x + y - 2)^2) in the box from 0 to 2 is above 0 at (1, 1) and at (2, 0) alone: a loop
+/// around the one, and an open curve of two facets at the other.
+pub fn beside_an_open_curve() -> Parts {
+    let form = [term(-2, &[]), term(1, &[0, 1]), term(1, &[1])];
+    let square = product(&[term(-1, &[1])], &product(&form, &form));
+    let polynomials = vec![gathered(&[&square[..], &[term(1, &[1])]].concat())];
+    Parts { ends: vec![(0, 2); 2], polynomials, ..case_a() }
+}
+
+/// The answer to a list of places.
+fn order_of(p: &dyn Product, job: &[u8], places: &[Place]) -> Result<CutOrder, u8> {
+    p.cut_order(job, &places.iter().flat_map(|place| place.bytes()).collect::<Vec<u8>>())
+}
+
+/// Request 2.14: the order of cutting.
+pub fn order(p: &dyn Product) {
+    use CutOrder::{Breaks, Stands};
+    // An empty list, and case A's loop by each of its places.
+    let a = case_a().bytes();
+    assert_eq!(order_of(p, &a, &[]), Ok(Stands));
+    let of_a = CASE_A_PLACES
+        .iter()
+        .flat_map(|(lowest, mask, _)| [0, 1].map(|side| place(lowest, &[*mask], side)));
+    for one in of_a.clone() {
+        assert_eq!(order_of(p, &a, &[one]), Ok(Stands));
+    }
+    // One loop in another, by each place of the inner one and some of the outer.
+    let nested = one_in_another().bytes();
+    for (lowest, mask) in [([1, 0], 1), ([-2, 0], 1), ([-2, -2], 3), ([0, 1], 2), ([1, 1], 3)] {
+        for (outer, inner) in [0, 1]
+            .map(|side| place(&lowest, &[mask], side))
+            .into_iter()
+            .flat_map(|outer| of_a.clone().map(move |inner| (outer, inner)))
+        {
+            assert_eq!(order_of(p, &nested, &[inner, outer]), Ok(Stands));
+            assert_eq!(order_of(p, &nested, &[outer, inner]), Ok(Breaks(0)));
+            assert_eq!(order_of(p, &nested, &[outer]), Ok(Stands));
+            assert_eq!(order_of(p, &nested, &[inner]), Ok(Stands));
+        }
+    }
+    side_by_side(p);
+    many_in_another(p);
+    refusals_of_order(p);
+}
+
+/// The two loops of `pieces_joined_by_the_bias`: both orders stand. At bias 1 they are one loop,
+/// which already came.
+fn side_by_side(p: &dyn Product) {
+    let lobes = [(1, [0, 0]), (4, [0, 2]), (-5, [2, 0]), (2, [4, 0])];
+    let polynomials = vec![lobes.map(|(c, exponents)| term(c, &exponents)).to_vec()];
+    let parts = Parts { ends: vec![(-2, 2), (-1, 1)], polynomials, ..case_a() };
+    let on_left = [([-2, 0], 1), ([-1, 0], 1), ([-2, -1], 3), ([-1, -1], 2)];
+    for left in on_left.map(|(lowest, mask)| place(&lowest, &[mask], 0)) {
+        let mut right = left.turned();
+        right.facet.lowest[0] += 2;
+        let job = parts.bytes();
+        assert_eq!(order_of(p, &job, &[left, right]), Ok(CutOrder::Stands));
+        assert_eq!(order_of(p, &job, &[right, left]), Ok(CutOrder::Stands));
+    }
+    let ends = [place(&[-2, 0], &[1], 0), place(&[1, 0], &[1], 0)];
+    let joined = Parts { bias: 1, ..parts }.bytes();
+    assert_eq!(order_of(p, &joined, &ends[..1]), Ok(CutOrder::Stands));
+    assert_eq!(order_of(p, &joined, &ends), Err(18));
+}
+
+/// Five loops in one and four beside it, all side by side: the outer one at each position, with the
+/// others in front of it and behind it.
+fn many_in_another(p: &dyn Product) {
+    let job = five_in_another().bytes();
+    // The facet that goes up to the vertex (k, -k) from 1 below on axis 1.
+    let up_to = |k: i64| place(&[k - 1, -k], &[1], (k % 2 == 0) as u8);
+    let outer = place(&[3, 0], &[1], 0);
+    let (inner, beside) = ([-2, -1, 0, 1, 2].map(up_to), [-5, -4, 4, 5].map(up_to));
+    for count in 0..=5 {
+        let (before, after) = inner.split_at(count);
+        let wanted = |k| if after.is_empty() { CutOrder::Stands } else { CutOrder::Breaks(k) };
+        let list = [before, &[outer], after].concat();
+        assert_eq!(order_of(p, &job, &list), Ok(wanted(count)));
+        // Those beside it change the position alone.
+        let first = [&beside[..], &list].concat();
+        assert_eq!(order_of(p, &job, &first), Ok(wanted(count + 4)));
+        let between = [before, &beside[..2], &[outer], &beside[2..], after].concat();
+        assert_eq!(order_of(p, &job, &between), Ok(wanted(count + 2)));
+        let last = [&list[..], &beside].concat();
+        assert_eq!(order_of(p, &job, &last), Ok(wanted(count)));
+        // One of those before once more: its loop already came.
+        assert_eq!(order_of(p, &job, &[&list[..], &[outer.turned()]].concat()), Err(18));
+        assert_eq!(order_of(p, &job, &[&last[..], &[beside[3]]].concat()), Err(18));
+    }
+    assert_eq!(order_of(p, &job, &[beside, beside].concat()), Err(18));
+    // At the corners of the box.
+    assert_eq!(order_of(p, &job, &[up_to(6)]), Err(18));
+    assert_eq!(order_of(p, &job, &[inner[0], place(&[-6, 5], &[2], 0)]), Err(18));
+}
+
+/// Each of them, and which comes first.
+fn refusals_of_order(p: &dyn Product) {
+    let nested = one_in_another();
+    let job = nested.bytes();
+    let (inner, outer) = (place(&[0, 0], &[1], 0), place(&[1, 0], &[1], 0));
+    // Open's, and 3 for another dimension, before the list is looked at.
+    let changed = |at: usize, byte: u8| {
+        let mut other = job.clone();
+        other[at] = byte;
+        other
+    };
+    for list in [vec![], vec![0], inner.bytes(), vec![255; 6]] {
+        assert_eq!(p.cut_order(&job[..3], &list), Err(1));
+        assert_eq!(p.cut_order(&changed(0, 0), &list), Err(2));
+        assert_eq!(p.cut_order(&changed(1, 5), &list), Err(3));
+        assert_eq!(p.cut_order(&changed(2, 0), &list), Err(4));
+        assert_eq!(p.cut_order(&job[..job.len() - 1], &list), Err(5));
+        let flat = Parts { ends: vec![(1, 1); 2], ..nested.clone() };
+        assert_eq!(p.cut_order(&flat.bytes(), &list), Err(6));
+        let mut zero = nested.clone();
+        zero.polynomials[0][0].coefficient = 0;
+        assert_eq!(p.cut_order(&zero.bytes(), &list), Err(7));
+        assert_eq!(p.cut_order(&changed(job.len() - 1, 2), &list), Err(8));
+        for n in [3, 4] {
+            let mut c = case_c(n);
+            assert_eq!(p.cut_order(&c.bytes(), &list), Err(3));
+            assert_eq!(p.cut_order(&c.bytes(), &c.start.bytes()), Err(3));
+            c.start.side = 2;
+            assert_eq!(p.cut_order(&c.bytes(), &list), Err(8));
+        }
+    }
+    // The start counts only for its form.
+    let elsewhere = Parts { start: place(&[99, 99], &[2], 1), ..nested.clone() };
+    assert_eq!(order_of(p, &elsewhere.bytes(), &[outer, inner]), Ok(CutOrder::Breaks(0)));
+    // 13: a length that is no multiple of 6, before any place.
+    for length in (0..=18).filter(|length| length % 6 != 0) {
+        let places = [inner, place(&[50, 0], &[1], 0), outer].map(|place| place.bytes()).concat();
+        assert_eq!(p.cut_order(&job, &places[..length]), Err(13));
+    }
+    // Of a place: 13, 9, 11, 18 for one that came, by itself and behind another, and 10 and 18 in
+    // other jobs.
+    let malformed = |mask: u8, side: u8| {
+        let mut bytes = place(&[50, 0], &[1], 0).bytes();
+        bytes[4..].copy_from_slice(&[mask, side]);
+        bytes
+    };
+    let outside = place(&[2, 0], &[1], 0).bytes();
+    let not_crossed = place(&[1, 0], &[2], 1).bytes();
+    let again = place(&[-1, 0], &[1], 0).bytes();
+    let first = inner.bytes();
+    for bytes in [malformed(0, 0), malformed(4, 0), malformed(1, 2)] {
+        assert_eq!(p.cut_order(&job, &bytes), Err(13));
+        assert_eq!(p.cut_order(&job, &[first.clone(), bytes].concat()), Err(13));
+    }
+    for (bytes, refusal) in [(&outside, 9), (&not_crossed, 11)] {
+        assert_eq!(p.cut_order(&job, bytes), Err(refusal));
+        assert_eq!(p.cut_order(&job, &[&first[..], bytes].concat()), Err(refusal));
+        assert_eq!(p.cut_order(&job, &[bytes, &first[..]].concat()), Err(refusal));
+    }
+    assert_eq!(p.cut_order(&job, &[&first[..], &again].concat()), Err(18));
+    assert_eq!(p.cut_order(&job, &[&first[..], &first].concat()), Err(18));
+    assert_eq!(p.cut_order(&job, &[&first[..], &outer.bytes(), &again].concat()), Err(18));
+    // All of one position before the next.
+    let refused = [(malformed(1, 2), 13), (outside, 9), (not_crossed, 11), (again, 18)];
+    for (one, refusal) in &refused {
+        for (other, _) in &refused {
+            let list = [&first[..], one, other].concat();
+            assert_eq!(p.cut_order(&job, &list), Err(*refusal));
+        }
+    }
+    // 18: the open curve beside a loop, whose trace ends at an edge.
+    let beside = beside_an_open_curve().bytes();
+    let (closed, open) = (place(&[0, 0], &[3], 0), place(&[1, 0], &[1], 0));
+    assert_eq!(order_of(p, &beside, &[closed]), Ok(CutOrder::Stands));
+    for open in [open, open.turned()] {
+        assert_eq!(order_of(p, &beside, &[open]), Err(18));
+        assert_eq!(order_of(p, &beside, &[closed, open]), Err(18));
+        assert_eq!(order_of(p, &beside, &[open, closed]), Err(18));
+    }
+    // 18: a facet by itself between two limits, or a limit and an edge. 10: the facet beside it.
+    let mut alone = readable_at_0(2);
+    for low in [0, -1] {
+        alone.ends[1] = (low, 1);
+        for side in [0, 1] {
+            let facet = place(&[20, 0], &[1], side);
+            assert_eq!(order_of(p, &alone.bytes(), &[facet]), Err(18));
+            assert_eq!(order_of(p, &alone.bytes(), &[place(&[20, 0], &[2], side), facet]), Err(10));
+            assert_eq!(order_of(p, &alone.bytes(), &[facet, place(&[20, 0], &[2], side)]), Err(18));
+        }
+    }
 }
 
 /// The five wrong turns.

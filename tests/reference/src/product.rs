@@ -6,6 +6,7 @@ use crate::ground::{self, Ground};
 use crate::job::{self, Job};
 use crate::limits::MOST;
 use crate::operations::{self, Move, Step, Verdict};
+use crate::order::{self, CutOrder};
 use crate::seams::{self, Ending};
 use crate::small;
 
@@ -37,6 +38,8 @@ pub trait Product {
     fn small_trace(&self, job: &[u8], buffer: &mut [u8]) -> Result<(Verdict, usize), u8>;
     /// How the list of seams ends, and the count of places written.
     fn seams(&self, job: &[u8], buffer: &mut [u8]) -> Result<(Ending, usize), u8>;
+    /// Whether the order of cutting that a list of places proposes stands.
+    fn cut_order(&self, job: &[u8], list: &[u8]) -> Result<CutOrder, u8>;
 }
 
 /// What Open answers to a job that opens.
@@ -89,5 +92,8 @@ impl Product for Reference {
     }
     fn seams(&self, job: &[u8], buffer: &mut [u8]) -> Result<(Ending, usize), u8> {
         seams::seams(job, buffer)
+    }
+    fn cut_order(&self, job: &[u8], list: &[u8]) -> Result<CutOrder, u8> {
+        order::cut_order(job, list)
     }
 }

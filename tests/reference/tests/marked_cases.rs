@@ -1,5 +1,5 @@
 //! Cases A to J, their like in dimension 4 and at a bias, running sums, halves of a step, grounds,
-//! the small cutter, the list of seams, and the wrong turns on the reference.
+//! the small cutter, the list of seams, the order of cutting, and the wrong turns on the reference.
 
 use reference::build::{case_a, case_c};
 use reference::listing::listing;
@@ -45,6 +45,11 @@ fn small_cutter() {
 #[test]
 fn seams() {
     marked::seams(&Reference);
+}
+
+#[test]
+fn order() {
+    marked::order(&Reference);
 }
 
 #[test]
