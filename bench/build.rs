@@ -8,13 +8,19 @@ use std::path::{Path, PathBuf};
 use std::process::{exit, Command};
 use std::{env, fs};
 
+/// Functions that an earlier archive may not have, with the name that says that it has them.
+const LATER: [(&str, &str); 2] =
+    [("gethwapiko_seams", "before_seams"), ("gethwapiko_cut_order", "before_order")];
+
 fn main() {
     let root = Path::new(env!("CARGO_MANIFEST_DIR")).join("..");
     let archive = root.join("target/staticlib/libcabi.a");
     println!("cargo:rerun-if-changed={}", archive.display());
     println!("cargo:rerun-if-env-changed=BEFORE");
     println!("cargo:rustc-check-cfg=cfg(before)");
-    println!("cargo:rustc-check-cfg=cfg(before_seams)");
+    for (_, name) in LATER {
+        println!("cargo:rustc-check-cfg=cfg({name})");
+    }
     match env::var_os("BEFORE").filter(|name| !name.is_empty()) {
         None => link(&archive),
         Some(before) => link_both(&archive, &root.join(before)),
@@ -38,8 +44,8 @@ fn link_both(archive: &Path, before: &Path) {
     let folder = PathBuf::from(env::var_os("OUT_DIR").expect("cargo sets it"));
     let names = folder.join("before.names");
     let defined = defined(before);
-    if defined.contains("gethwapiko_seams") {
-        println!("cargo:rustc-cfg=before_seams");
+    for (_, name) in LATER.iter().filter(|(function, _)| defined.contains(*function)) {
+        println!("cargo:rustc-cfg={name}");
     }
     let lines = defined.into_iter().map(|name| format!("{name} before_{name}\n"));
     fs::write(&names, lines.collect::<String>()).expect("a folder to write to");

@@ -1,9 +1,10 @@
-//! What the bench calls by the C interface itself: Open and the list of seams of the proved library,
-//! and Open, Trace and, if it has it, the list of seams of an earlier state of it, if one is linked
-//! (`build.rs`).
+//! What the bench calls by the C interface itself: Open, the list of seams and the order of cutting of
+//! the proved library, and Open, Trace and, if it has them, the list of seams and the order of cutting
+//! of an earlier state of it, if one is linked (`build.rs`).
 
 #[cfg(before)]
 use reference::operations::Verdict;
+use reference::order::CutOrder;
 use tracer::open::Opened;
 use tracer::seams_plain::Listed;
 
@@ -39,6 +40,24 @@ impl SeamsAnswer {
     }
 }
 
+#[repr(C)]
+struct OrderAnswer {
+    refusal: u64,
+    stands: u64,
+    position: u64,
+}
+
+impl OrderAnswer {
+    /// The answer as the reference gives it.
+    fn read(&self) -> Result<CutOrder, u8> {
+        match (self.refusal, self.stands) {
+            (0, 1) => Ok(CutOrder::Stands),
+            (0, _) => Ok(CutOrder::Breaks(self.position as usize)),
+            (number, _) => Err(number as u8),
+        }
+    }
+}
+
 extern "C" {
     fn gethwapiko_open(job: *const u8, job_length: usize) -> OpenAnswer;
     fn gethwapiko_seams(
@@ -47,6 +66,12 @@ extern "C" {
         buffer: *mut u8,
         buffer_length: usize,
     ) -> SeamsAnswer;
+    fn gethwapiko_cut_order(
+        job: *const u8,
+        job_length: usize,
+        places: *const u8,
+        places_length: usize,
+    ) -> OrderAnswer;
 }
 
 /// Open of the proved library.
@@ -58,6 +83,11 @@ pub fn open(job: &[u8]) -> OpenAnswer {
 pub fn seams(job: &[u8], buffer: &mut [u8]) -> Listed {
     let (room, length) = (buffer.as_mut_ptr(), buffer.len());
     unsafe { gethwapiko_seams(job.as_ptr(), job.len(), room, length) }.listed()
+}
+
+/// The order of cutting of the proved library.
+pub fn cut_order(job: &[u8], list: &[u8]) -> Result<CutOrder, u8> {
+    unsafe { gethwapiko_cut_order(job.as_ptr(), job.len(), list.as_ptr(), list.len()) }.read()
 }
 
 #[cfg(before)]
@@ -112,4 +142,21 @@ extern "C" {
 pub fn seams_before(job: &[u8], buffer: &mut [u8]) -> Listed {
     let (room, length) = (buffer.as_mut_ptr(), buffer.len());
     unsafe { before_gethwapiko_seams(job.as_ptr(), job.len(), room, length) }.listed()
+}
+
+#[cfg(before_order)]
+extern "C" {
+    fn before_gethwapiko_cut_order(
+        job: *const u8,
+        job_length: usize,
+        places: *const u8,
+        places_length: usize,
+    ) -> OrderAnswer;
+}
+
+/// The order of cutting of the earlier state.
+#[cfg(before_order)]
+pub fn cut_order_before(job: &[u8], list: &[u8]) -> Result<CutOrder, u8> {
+    let (places, length) = (list.as_ptr(), list.len());
+    unsafe { before_gethwapiko_cut_order(job.as_ptr(), job.len(), places, length) }.read()
 }

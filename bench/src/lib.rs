@@ -1,15 +1,20 @@
-//! Two tracers, two listers of seams and two openers in Rust for comparing times, and the jobs that
-//! are timed.
+//! Two tracers, two listers of seams, two orders of cutting and two openers in Rust for comparing
+//! times, and the jobs that are timed.
 
 pub mod careful;
 pub mod jobs;
 pub mod long_curves;
 pub mod open;
+pub mod order_jobs;
+pub mod order_plain;
+pub mod order_table;
 pub mod plain;
 pub mod seam_jobs;
 pub mod seams_careful;
 pub mod seams_plain;
 
+#[cfg(test)]
+mod order_tests;
 #[cfg(test)]
 mod seam_tests;
 

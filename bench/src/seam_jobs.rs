@@ -36,18 +36,18 @@ pub fn facets_of_box(job: &Job) -> u64 {
 }
 
 /// The sum of the coordinates, each so many times.
-fn form(coefficients: &[i64]) -> Vec<Term> {
+pub(crate) fn form(coefficients: &[i64]) -> Vec<Term> {
     let times = |(k, &coefficient)| Term { coefficient, exponents: power_of(k + 1, 1) };
     gathered(&coefficients.iter().enumerate().map(times).collect::<Vec<_>>())
 }
 
 /// One polynomial plus so many times another.
-fn plus(a: &[Term], factor: i64, b: &[Term]) -> Vec<Term> {
+pub(crate) fn plus(a: &[Term], factor: i64, b: &[Term]) -> Vec<Term> {
     gathered(&[a, &product(&[term(factor, &[])], b)].concat())
 }
 
 /// A polynomial less a number.
-fn less(a: &[Term], number: i64) -> Vec<Term> {
+pub(crate) fn less(a: &[Term], number: i64) -> Vec<Term> {
     plus(a, -number, &[term(1, &[])])
 }
 
@@ -67,7 +67,7 @@ fn two_spheres(n: usize, reach: i64) -> Vec<Term> {
 }
 
 /// A ball as large as the box.
-fn ball(n: usize, reach: i64) -> Vec<Term> {
+pub(crate) fn ball(n: usize, reach: i64) -> Vec<Term> {
     sphere(n, reach * reach * 61 / 64 + 1)
 }
 

@@ -64,7 +64,11 @@ fn walked(job: &[u8]) -> (u64, u64) {
 }
 
 /// The shortest call of each kind, in so many rounds in which they take turns.
-fn shortest(rounds: u64, kinds: usize, mut call: impl FnMut(usize) -> Duration) -> Vec<Duration> {
+pub fn shortest(
+    rounds: u64,
+    kinds: usize,
+    mut call: impl FnMut(usize) -> Duration,
+) -> Vec<Duration> {
     let mut best = vec![Duration::MAX; kinds];
     for _ in 0..rounds {
         for (kind, best) in best.iter_mut().enumerate() {
