@@ -21,11 +21,12 @@ use Rattle.paper.proofs.PlacesWritten.{Writable, traceable-writable}
 use Rattle.nesting.specs.Standing.{Standing, stands, standing}
 use Rattle.nesting.specs.Loops.{greatestX, Reordered, Apart}
 use Rattle.nesting.specs.CutOrder.{onLoop, loopOf, sameLoop, loopInside, listedAt, firstListed, ordered}
+use Rattle.nesting.specs.OrderDemand.{LoopsListed}
 use Rattle.nesting.proofs.Positions.{apart-at, at-apart}
 use Rattle.nesting.proofs.Sorted.{NotLess, reordered-member, reordered-apart, some-order, rising-stands}
 use Rattle.nesting.proofs.JobLoops.{same-loop-joined}
 use Rattle.nesting.proofs.JobInside.{job-inside-rank}
-use Rattle.nesting.proofs.OrderLoops.{LoopsListed, order-loops, loops-answered, listed-apart}
+use Rattle.nesting.proofs.OrderLoops.{order-loops, loops-answered, listed-apart}
 use Rattle.nesting.proofs.ListWritten.{written-size, written-count, written-listed, written-bytes}
 
 -- how far the loop of a place reaches along axis 1

@@ -16,4 +16,5 @@ pub mod OrderLoops
 pub mod ListWritten
 pub mod JobOrder
 pub mod OrderAnswers
+pub mod OrderDemand
 pub mod Cases

@@ -17,9 +17,10 @@ use Rattle.paper.proofs.Opens.{Opens}
 use Rattle.paper.proofs.WithStart.{opens-back}
 use Rattle.nesting.specs.Standing.{stands, brokenAt, some, standing}
 use Rattle.nesting.specs.CutOrder.{onLoop, sameLoop, loopInside, listedAt, firstListed, positionRefusal, positionsRefusal, orderRefusal, ordered}
+use Rattle.nesting.specs.OrderDemand.{LoopsListed, BrokenNumber}
 use Rattle.nesting.proofs.Standing.{member-some, stands-apart, apart-stands}
-use Rattle.nesting.proofs.Positions.{apart-at, at-apart, BrokenNumber, broken-number}
-use Rattle.nesting.proofs.OrderLoops.{LoopsListed, order-standing, loops-answered}
+use Rattle.nesting.proofs.Positions.{apart-at, at-apart, broken-number}
+use Rattle.nesting.proofs.OrderLoops.{order-standing, loops-answered}
 
 -- ---- answered
 

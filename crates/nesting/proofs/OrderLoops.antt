@@ -21,6 +21,7 @@ use Rattle.paper.proofs.WithStart.{opens-back}
 use Rattle.paper.proofs.PointTakes.{point-traceable, traceable-point}
 use Rattle.nesting.specs.Standing.{Standing, some, standing}
 use Rattle.nesting.specs.CutOrder.{onLoop, sameLoop, loopInside, listedAt, firstListed, positionRefusal, positionsRefusal, orderRefusal, ordered}
+use Rattle.nesting.specs.OrderDemand.{LoopsListed}
 use Rattle.nesting.proofs.Standing.{none-member, none-some}
 use Rattle.nesting.proofs.JobLoops.{same-loop-joined}
 
@@ -108,15 +109,6 @@ place-size : (ps : List ℕ) (n k : ℕ) → n ≡ 2 → length ps ≡ 6 * (leng
 place-size ps n k e = rw e (λ h l. simp (length-take, length-drop) (omega arith))
 
 -- ---- the list
-
--- the job opens and has dimension 2, and the list names places on different loops of it
-pub record LoopsListed (s ps : List ℕ) : Type 0 where
-  pub opened : Opens s
-  pub two : dimension s ≡ 2
-  pub size : length ps ≡ 6 * placeCount s ps
-  pub traceable : (k : ℕ) → k < placeCount s ps → Traceable (dimension s) (fieldOf s) (listedAt s ps k)
-  pub looped : (k : ℕ) → k < placeCount s ps → onLoop s (listedAt s ps k) ≡ true
-  pub new : (j k : ℕ) → j < k → k < placeCount s ps → sameLoop s (listedAt s ps k) (listedAt s ps j) ≡ false
 
 -- a list that is not refused is such a list
 pub order-passes : (s ps : List ℕ) → orderRefusal s ps ≡ 0 → LoopsListed s ps

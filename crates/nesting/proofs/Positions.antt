@@ -12,6 +12,7 @@ use Rattle.curves.proofs.Listed.{countFrom-listed, countFrom-from, countFrom-un
 use Rattle.nesting.specs.Standing.{brokenAt, some, standingFrom, standing}
 use Rattle.nesting.specs.Loops.{Apart}
 use Rattle.nesting.specs.Loops.Apart.{none, more}
+use Rattle.nesting.specs.OrderDemand.{BrokenNumber}
 use Rattle.nesting.proofs.Standing.{some-member, none-member}
 
 -- ---- apart
@@ -45,21 +46,12 @@ module _ {A : Type 0} {Different : A → A → Type 0} (f : ℕ → A) where
 -- ---- the answer
 
 module _ {A : Type 0} (inner : A → A → Bool) (f : ℕ → A) where
-  -- of the m numbers from k on, `at` is the first with a later one whose value is inside its own
-  pub record BrokenNumber (k m at : ℕ) : Type 0 where
-    pub from : k ≤ at
-    pub later : ℕ
-    pub after : at < later
-    pub under : later < k + m
-    pub inside : inner (f later) (f at) ≡ true
-    pub earlier : (i j : ℕ) → k ≤ i → i < at → i < j → j < k + m → inner (f j) (f i) ≡ false
-
   -- a value behind k is inside that at k
   abbrev insideLater : ℕ → ℕ → Bool
   insideLater k m = some (λ p. inner p (f k)) (map f (countFrom (suc k) m))
 
   -- the first number is it
-  number-here : (k m at : ℕ) → insideLater k m ≡ true → k ≡ at → BrokenNumber k (suc m) at
+  number-here : (k m at : ℕ) → insideLater k m ≡ true → k ≡ at → BrokenNumber inner f k (suc m) at
   number-here k m at h same =
       let w = some-member (λ p. inner p (f k)) (map f (countFrom (suc k) m)) h in
       let v = Memᴰ·of-map f (countFrom (suc k) m) (w .1) in
@@ -75,7 +67,7 @@ module _ {A : Type 0} (inner : A → A → Bool) (f : ℕ → A) where
       }
 
   -- a later one is it
-  number-further : (k m at : ℕ) → insideLater k m ≡ false → BrokenNumber (suc k) m at → BrokenNumber k (suc m) at
+  number-further : (k m at : ℕ) → insideLater k m ≡ false → BrokenNumber inner f (suc k) m at → BrokenNumber inner f k (suc m) at
   number-further k m at h w =
       record {
         from = omega (arith, w .from);
@@ -95,17 +87,17 @@ module _ {A : Type 0} (inner : A → A → Bool) (f : ℕ → A) where
       first i j false q l u x y = w .earlier i j (omega (arith, eqb-false k i q)) u x (omega arith)
 
   -- of the m numbers from k on, where the first has position k
-  number-from : (k m at : ℕ) → standingFrom inner k (map f (countFrom k m)) ≡ brokenAt at → BrokenNumber k m at
+  number-from : (k m at : ℕ) → standingFrom inner k (map f (countFrom k m)) ≡ brokenAt at → BrokenNumber inner f k m at
   unfolding standingFrom countFrom
   number-from k zero at e = absurd (let z : _≡_ {A = ℕ} 0 1 = cc in let bad : ⊥ = omega arith in bad)
   number-from k (suc m) at e = go (insideLater k m) refl e (number-from (suc k) m at)
     where
       go : (b : Bool) → insideLater k m ≡ b → cond b (brokenAt k) (standingFrom inner (suc k) (map f (countFrom (suc k) m))) ≡ brokenAt at
-          → (standingFrom inner (suc k) (map f (countFrom (suc k) m)) ≡ brokenAt at → BrokenNumber (suc k) m at) → BrokenNumber k (suc m) at
+          → (standingFrom inner (suc k) (map f (countFrom (suc k) m)) ≡ brokenAt at → BrokenNumber inner f (suc k) m at) → BrokenNumber inner f k (suc m) at
       go true h c rest = number-here k m at h cc
       go false h c rest = number-further k m at h (rest c)
 
   -- the answer about the values at the first m numbers
-  pub broken-number : (m at : ℕ) → standing inner (map f (countFrom 0 m)) ≡ brokenAt at → BrokenNumber 0 m at
+  pub broken-number : (m at : ℕ) → standing inner (map f (countFrom 0 m)) ≡ brokenAt at → BrokenNumber inner f 0 m at
   unfolding standing
   broken-number m at e = number-from 0 m at e

@@ -3,4 +3,5 @@ pub mod Inside
 pub mod Standing
 pub mod Loops
 pub mod CutOrder
+pub mod OrderDemand
 pub mod Answers
