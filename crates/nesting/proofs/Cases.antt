@@ -132,10 +132,10 @@ outer-first = refl
 
 -- ---- refusals
 
--- a byte too much; dimension 3; a job that does not open
-pub odd-length : ordered caseA (0 ∷ 0 ∷ 0 ∷ 0 ∷ 1 ∷ 0 ∷ 0 ∷ []) ≡ refused 13
+-- two bytes too much; dimension 3; a job that does not open
+pub uneven-length : ordered caseA (0 ∷ 0 ∷ 0 ∷ 0 ∷ 1 ∷ 0 ∷ 0 ∷ 0 ∷ []) ≡ refused 13
 unfolding orderOf
-odd-length = refl
+uneven-length = refl
 
 pub dimension-3 : ordered caseC [] ≡ refused 3
 unfolding orderOf
