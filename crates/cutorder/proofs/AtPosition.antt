@@ -5,14 +5,15 @@ use mathlib.Core.Path.{_≡_, refl, sym, ap, _∙_}
 use mathlib.Core.Bool.{Bool, true, false, not, _||_, false≢true}
 use mathlib.Core.List.{List}
 use lib.Dec.{eqb}
+use lib.ListN.{length}
 use borrow.Author.Tests.{eqb-true, eqb-false}
 use Rattle.curves.specs.Grid.{Place}
-use Rattle.curves.specs.Walk.{Verdict, full, Trace}
+use Rattle.curves.specs.Walk.{Verdict, Trace}
 use Rattle.curves.specs.Step.{Stop}
 use Rattle.paper.specs.Job.{refuseIf}
 use Rattle.paper.specs.Operations.{Answer, refused, answered, unless, pointRefusal, verdictAndCount}
 use Rattle.paper.specs.Pen.{placeBytes}
-use Rattle.paper.proofs.Refusals.{first-refuses, first-passes, refuse-here, unless-refused}
+use Rattle.paper.proofs.Refusals.{first-refuses, first-passes, refuse-here, unless-refused, answered-inv}
 use Rattle.seamlist.specs.WholeTrace.{wholeTrace}
 use Rattle.nesting.specs.Standing.{some}
 use Rattle.nesting.specs.CutOrder.{isLoop, onLoop, sameLoop, listedAt, firstListed, positionRefusal}
@@ -39,36 +40,11 @@ refused-inv {A} (suc k) a m e = record { is = sym (ap number e); some = λ z. om
     number (refused l) = l
     number (answered b) = 0
 
--- verdict and count of a trace, or its refusal
-counted-refused : (k : ℕ) (t : Trace Place Stop) (m : ℕ) → refused m ≡ verdictAndCount (unless k t) → RefusedBy k m
+-- verdict and count of a trace, unless it is refused
+counted-unless : (k : ℕ) (t : Trace Place Stop) → verdictAndCount (unless k t) ≡ unless k (t .verdict, length (t .places))
 unfolding unless verdictAndCount
-counted-refused zero t m e = absurd (false≢true (ap answers e))
-  where
-    answers : Answer (Verdict Stop × ℕ) → Bool
-    answers (refused l) = false
-    answers (answered b) = true
-counted-refused (suc k) t m e = record { is = sym (ap number e); some = λ z. omega (arith, z) }
-  where
-    number : Answer (Verdict Stop × ℕ) → ℕ
-    number (refused l) = l
-    number (answered b) = 0
-
-record CountedBy (k : ℕ) (t : Trace Place Stop) (v : Verdict Stop) : Type 0 where
-  none : k ≡ 0
-  verdict : t .verdict ≡ v
-
-counted-answered : (k : ℕ) (t : Trace Place Stop) (v : Verdict Stop) (m : ℕ) → answered (v, m) ≡ verdictAndCount (unless k t) → CountedBy k t v
-unfolding unless verdictAndCount
-counted-answered zero t v m e = record { none = refl; verdict = sym (ap verdictOf e) }
-  where
-    verdictOf : Answer (Verdict Stop × ℕ) → Verdict Stop
-    verdictOf (refused l) = full
-    verdictOf (answered b) = b .0
-counted-answered (suc k) t v m e = absurd (false≢true (sym (ap answers e)))
-  where
-    answers : Answer (Verdict Stop × ℕ) → Bool
-    answers (refused l) = false
-    answers (answered b) = true
+counted-unless zero t = refl
+counted-unless (suc k) t = refl
 
 -- ---- the position
 
@@ -78,25 +54,31 @@ pub record TakenAs (s ps : List ℕ) (k : ℕ) (v : Verdict Stop) : Type 0 where
   pub verdict : wholeTrace s (listedAt s ps k) .verdict ≡ v
 
 module _ (s ps : List ℕ) (k : ℕ) {part : List ℕ} (is : part ≡ placeBytes s ps k) where
+  abbrev refusal : ℕ
+  refusal = pointRefusal s (placeBytes s ps k)
+
+  abbrev whole : Trace Place Stop
+  whole = wholeTrace s (listedAt s ps k)
+
   -- the trace from the place
-  trace-at : verdictAndCount (tracedFrom s part) ≡ verdictAndCount (unless (pointRefusal s (placeBytes s ps k)) (wholeTrace s (listedAt s ps k)))
+  trace-at : verdictAndCount (tracedFrom s part) ≡ unless refusal (whole .verdict, length (whole .places))
   unfolding tracedFrom listedAt
-  trace-at = ap (λ p. verdictAndCount (tracedFrom s p)) is
+  trace-at = ap (λ p. verdictAndCount (tracedFrom s p)) is ∙ counted-unless refusal whole
 
   -- Point refuses the place
   pub at-refused : (m : ℕ) → refused m ≡ verdictAndCount (tracedFrom s part) → refused m ≡ atPosition s ps k
   unfolding atPosition positionRefusal
   at-refused m e =
-      let r = counted-refused (pointRefusal s (placeBytes s ps k)) (wholeTrace s (listedAt s ps k)) m (e ∙ trace-at) in
+      let r = refused-inv refusal (whole .verdict, length (whole .places)) m (e ∙ trace-at) in
       sym
-      (ap (λ l. unless l (outerOf s ps k)) (first-refuses (pointRefusal s (placeBytes s ps k)) _ (r .some))
-      ∙ unless-refused (pointRefusal s (placeBytes s ps k)) (outerOf s ps k) (r .some)
+      (ap (λ l. unless l (outerOf s ps k)) (first-refuses refusal _ (r .some))
+      ∙ unless-refused refusal (outerOf s ps k) (r .some)
       ∙ ap refused (r .is))
 
   pub at-taken : {v : Verdict Stop} {m : ℕ} → answered (v, m) ≡ verdictAndCount (tracedFrom s part) → TakenAs s ps k v
   at-taken {v} {m} e =
-      let r = counted-answered (pointRefusal s (placeBytes s ps k)) (wholeTrace s (listedAt s ps k)) v m (e ∙ trace-at) in
-      record { none = r .none; verdict = r .verdict }
+      let r = answered-inv refusal (whole .verdict, length (whole .places)) (v, m) (sym (e ∙ trace-at)) in
+      record { none = r .none; verdict = ap (λ (p : Verdict Stop × ℕ). p .0) (r .is) }
 
 module _ {s ps : List ℕ} {k : ℕ} {v : Verdict Stop} (t : TakenAs s ps k v) where
   -- its trace is no loop

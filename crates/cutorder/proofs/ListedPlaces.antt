@@ -5,25 +5,18 @@ use mathlib.Core.Path.{_≡_, ap, ap₂, _∙_}
 use mathlib.Core.List.{List, [], _∷_, _++_, map}
 use lib.ListN.{length}
 use Rattle.exact.specs.Crossed.{countFrom}
-use Rattle.exact.proofs.CountFrom.{length-map-countFrom}
+use Rattle.exact.proofs.CountFrom.{length-map-countFrom, map-countFrom-last}
 use Rattle.paper.specs.Job.{dimension, decodePlace}
 use Rattle.paper.specs.Pen.{placeBytes}
 use Rattle.job.specs.OpenJob.{JobOf}
 use Rattle.nesting.specs.CutOrder.{listedAt, firstListed}
-
--- ---- positions
-
-map-last : {A : Type 0} (f : ℕ → A) (i k : ℕ) → map f (countFrom i (suc k)) ≡ map f (countFrom i k) ++ (f (i + k) ∷ [])
-unfolding countFrom
-map-last f i zero = ap (λ m. f m ∷ []) (omega arith)
-map-last f i (suc k) = ap (λ l. f i ∷ l) (map-last f (suc i) k ∙ ap (λ m. map f (countFrom (suc i) k) ++ (f m ∷ [])) (omega arith))
 
 module _ (s ps : List ℕ) where
   pub listed-last : (k : ℕ) → firstListed s ps (k + 1) ≡ firstListed s ps k ++ (listedAt s ps k ∷ [])
   unfolding firstListed
   listed-last k =
       ap (λ m. map (listedAt s ps) (countFrom 0 m)) (omega arith)
-      ∙ map-last (listedAt s ps) 0 k
+      ∙ map-countFrom-last (listedAt s ps) 0 k
       ∙ ap (λ m. map (listedAt s ps) (countFrom 0 k) ++ (listedAt s ps m ∷ [])) (omega arith)
 
   pub listed-length : (k : ℕ) → length (firstListed s ps k) ≡ k

@@ -1,8 +1,8 @@
--- The list k, k + 1, .., k + m − 1 and the list of the values of a function at these numbers: length, elements, the first one, and one left out.
+-- The list k, k + 1, .., k + m − 1 and the list of the values of a function at these numbers: length, elements, the first one, the last one, and one left out.
 use Prim.Native.Nat.{ℕ, suc, zero, _+_, _-_, _≤_, _<_}
 use native.Mathlib.Omega.{arith}
 use mathlib.Core.Path.{_≡_, refl, sym, ap, ap₂, _∙_}
-use mathlib.Core.List.{[], _∷_, map}
+use mathlib.Core.List.{[], _∷_, _++_, map}
 use mathlib.Core.Option.{none, some}
 use lib.ListN.{length, getD, getElem?}
 use Rattle.exact.specs.Crossed.{countFrom, remove}
@@ -69,6 +69,14 @@ module _ {A : Type 0} where
   unfolding countFrom
   map-countFrom-suc f k zero = refl
   map-countFrom-suc f k (suc m) = ap (λ l. f (suc k) ∷ l) (map-countFrom-suc f (suc k) m)
+
+  -- the last value
+  pub map-countFrom-last : (f : ℕ → A) (k m : ℕ) → map f (countFrom k (suc m)) ≡ map f (countFrom k m) ++ (f (k + m) ∷ [])
+  unfolding countFrom
+  map-countFrom-last f k zero = let e : k ≡ k + 0 = omega arith in ap (λ j. f j ∷ []) e
+  map-countFrom-last f k (suc m) =
+      let e : suc k + m ≡ k + suc m = omega arith in
+      ap (λ l. f k ∷ l) (map-countFrom-last f (suc k) m ∙ ap (λ j. map f (countFrom (suc k) m) ++ (f j ∷ [])) e)
 
   -- without the value at p
   pub remove-map-countFrom :

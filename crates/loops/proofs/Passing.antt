@@ -104,7 +104,7 @@ module _ {s : List ℕ} {start : HeldPlace} (h : Held s 2 start) where
         not-full = λ f. whole-not-full (ap (λ (t : Trace Place Stop). t .verdict) is ∙ f);
         same-loop = ap (λ t. among (facetsOf t) (placeAs 2 past .facet)) is;
         is-inside =
-            inside-by-walk (rowEnd s) (low .x) (low .y) (loopOf s q) (loop-differ s e q (h .traceable)) (loop-within s e q (h .traceable))
+            inside-by-walk (rowEnd s) (low .x) (low .y) (loopOf s q) (loop-differ (job-opens (h .job)) e q (h .traceable)) (loop-within (job-opens (h .job)) e q (h .traceable))
             ∙ ap (oddAhead (placeAs 2 past)) is;
       }
 

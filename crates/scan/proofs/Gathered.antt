@@ -3,10 +3,11 @@ use Prim.Native.Nat.{ℕ, zero, suc, _+_, _<_}
 use native.Mathlib.Omega.{arith}
 use mathlib.Core.Path.{_≡_, refl, sym, ap, ap₂, _∙_}
 use mathlib.Core.Bool.{Bool, true, false, cond}
-use mathlib.Core.List.{List, [], _∷_, _++_, map, map-append, append-nil, append-assoc}
+use mathlib.Core.List.{List, [], _∷_, _++_, map, append-nil, append-assoc}
 use lib.Dec.{eqb}
 use borrow.Author.Tests.{eqb-true, eqb-false}
 use Rattle.exact.specs.Crossed.{countFrom}
+use Rattle.exact.proofs.CountFrom.{map-countFrom-last}
 use Rattle.curves.specs.Box.{keep, pairs}
 
 module _ {A : Type 0} where
@@ -50,13 +51,6 @@ keep-append t (x ∷ xs) ys = go (t x) (keep-append t xs ys)
     go true e = ap (λ l. x ∷ l) e
     go false e = e
 
-countFrom-last : (k m : ℕ) → countFrom k (suc m) ≡ countFrom k m ++ ((k + m) ∷ [])
-unfolding countFrom
-countFrom-last k zero = let e : k ≡ k + 0 = omega arith in ap (λ j. j ∷ []) e
-countFrom-last k (suc m) =
-    let e : suc k + m ≡ k + suc m = omega arith in
-    ap (λ l. k ∷ l) (countFrom-last (suc k) m ∙ ap (λ j. countFrom (suc k) m ++ (j ∷ [])) e)
-
 pairs-append : {A B C : Type 0} (f : A → B → C) (xs ys : List A) (bs : List B) → pairs f (xs ++ ys) bs ≡ pairs f xs bs ++ pairs f ys bs
 unfolding pairs
 pairs-append f [] ys bs = refl
@@ -64,9 +58,7 @@ pairs-append f (x ∷ xs) ys bs = ap (λ l. map (f x) bs ++ l) (pairs-append f x
 
 -- the last of the numbers under m + 1
 counted-last : {A : Type 0} (g : ℕ → A) (m : ℕ) → map g (countFrom 0 (suc m)) ≡ map g (countFrom 0 m) ++ (g m ∷ [])
-counted-last g m =
-    let e : 0 + m ≡ m = omega arith in
-    ap (map g) (countFrom-last 0 m) ∙ map-append g (countFrom 0 m) ((0 + m) ∷ []) ∙ ap (λ j. map g (countFrom 0 m) ++ (g j ∷ [])) e
+counted-last g m = let e : 0 + m ≡ m = omega arith in map-countFrom-last g 0 m ∙ ap (λ j. map g (countFrom 0 m) ++ (g j ∷ [])) e
 
 -- the members g 0, g 1, .. that pass a test
 pub keep-gathered : {A : Type 0} (t : A → Bool) (g : ℕ → A) (m : ℕ) → keep t (map g (countFrom 0 m)) ≡ gathered (λ j. keep t (g j ∷ [])) m
