@@ -1,2 +1,2 @@
 -- What the functions speak of.
-pub mod Bodies
+pub mod Laid

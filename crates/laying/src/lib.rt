@@ -1,20 +1,18 @@
 // The parts of a job laid in a buffer from a position on: contents and bodies. Each function answers the position behind what it laid. Bodies come as
 // an array, body k at index k: box, polynomials, start; those past index n are not read.
 
-ghost use mathlib.Core.Path.{_≡_};
 ghost use lib.IntN.{pos};
 ghost use Prim.Native.Nat.{_+_, _*_, _≤_};
 ghost use lib.ListN.{length};
-ghost use lib.Seq.{sets};
 ghost use Rattle.paper.specs.Bytes.{wordBytes};
 ghost use Rattle.paper.specs.Job.{contentsEnd};
 ghost use Rattle.jobfile.specs.Assembled.{entriesOf, bodiesOf, contentsOf, jobOf};
-ghost use Rattle.laying.specs.Bodies.{bodyAt};
+ghost use Rattle.laying.specs.Laid.{bodyAt, Laid};
 
 // The low 16 bits of a number, the low byte first.
 fn lay_word(buffer: &mut [u8], at: usize, word: usize) -> usize
     requires { ⌜ at + 2 ≤ length (now buffer) ⌝ }
-    ensures { λ r. ⌜ (r ≡ at + 2) × (now (buffer .exit) ≡ sets (now (buffer .entry)) at (wordBytes (pos word))) ⌝ }
+    ensures { λ r. ⌜ Laid (now (buffer .entry)) at (wordBytes (pos word)) (now (buffer .exit)) r ⌝ }
 {
     buffer[at] = (word % 256) as u8;
     buffer[at + 1] = (word / 256 % 256) as u8;
@@ -24,7 +22,7 @@ fn lay_word(buffer: &mut [u8], at: usize, word: usize) -> usize
 // The entries: offset and length of each body. The first body follows the contents, each other begins where the last ended.
 fn lay_entries(buffer: &mut [u8], at: usize, n: usize, bodies: [&[u8]; 5]) -> usize
     requires { ⌜ (n ≤ 4) × (at + (4 * n + 4) ≤ length (now buffer)) × (contentsEnd n + length (bodiesOf (bodyAt bodies) 0 (n + 1)) ≤ length (now buffer)) ⌝ }
-    ensures { λ r. ⌜ (r ≡ at + (4 * n + 4)) × (now (buffer .exit) ≡ sets (now (buffer .entry)) at (entriesOf (bodyAt (bodies .entry)) 0 (n + 1) (contentsEnd n))) ⌝ }
+    ensures { λ r. ⌜ Laid (now (buffer .entry)) at (entriesOf (bodyAt (bodies .entry)) 0 (n + 1) (contentsEnd n)) (now (buffer .exit)) r ⌝ }
 {
     let mut next = at;
     let mut offset = 4 * n + 8;
@@ -42,7 +40,7 @@ fn lay_entries(buffer: &mut [u8], at: usize, n: usize, bodies: [&[u8]; 5]) -> us
 // The contents of a job for which there is room.
 pub fn lay_contents(buffer: &mut [u8], at: usize, n: usize, bias: u8, bodies: [&[u8]; 5]) -> usize
     requires { ⌜ (n ≤ 4) × (at + length (jobOf n bias (bodyAt bodies)) ≤ length (now buffer)) ⌝ }
-    ensures { λ r. ⌜ (r ≡ at + contentsEnd n) × (now (buffer .exit) ≡ sets (now (buffer .entry)) at (contentsOf n bias (bodyAt (bodies .entry)))) ⌝ }
+    ensures { λ r. ⌜ Laid (now (buffer .entry)) at (contentsOf n bias (bodyAt (bodies .entry))) (now (buffer .exit)) r ⌝ }
 {
     buffer[at] = 1;
     buffer[at + 1] = n as u8;
@@ -54,7 +52,7 @@ pub fn lay_contents(buffer: &mut [u8], at: usize, n: usize, bias: u8, bodies: [&
 // A body.
 fn lay_body(buffer: &mut [u8], at: usize, body: &[u8]) -> usize
     requires { ⌜ at + length (now body) ≤ length (now buffer) ⌝ }
-    ensures { λ r. ⌜ (r ≡ at + length (now (body .entry))) × (now (buffer .exit) ≡ sets (now (buffer .entry)) at (now (body .entry))) ⌝ }
+    ensures { λ r. ⌜ Laid (now (buffer .entry)) at (now (body .entry)) (now (buffer .exit)) r ⌝ }
 {
     let mut i = 0;
     while i < body.len() {
@@ -67,7 +65,7 @@ fn lay_body(buffer: &mut [u8], at: usize, body: &[u8]) -> usize
 // The bodies of a job, one behind the other.
 pub fn lay_bodies(buffer: &mut [u8], at: usize, n: usize, bodies: [&[u8]; 5]) -> usize
     requires { ⌜ (n ≤ 4) × (at + length (bodiesOf (bodyAt bodies) 0 (n + 1)) ≤ length (now buffer)) ⌝ }
-    ensures { λ r. ⌜ (r ≡ at + length (bodiesOf (bodyAt (bodies .entry)) 0 (n + 1))) × (now (buffer .exit) ≡ sets (now (buffer .entry)) at (bodiesOf (bodyAt (bodies .entry)) 0 (n + 1))) ⌝ }
+    ensures { λ r. ⌜ Laid (now (buffer .entry)) at (bodiesOf (bodyAt (bodies .entry)) 0 (n + 1)) (now (buffer .exit)) r ⌝ }
 {
     let mut next = at;
     let mut k = 0;

@@ -1,0 +1,2 @@
+-- What a writer is once bytes are laid.
+pub mod Advanced
