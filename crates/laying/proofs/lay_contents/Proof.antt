@@ -61,12 +61,16 @@ lay-entries-requires c κs =
 
 same-length : tie.Need-same-length
 same-length c =
-    let whole = laid-behind (four-laid _ _ _ _ _ _) (c .before .before .lay-entries .ensures) in
-    laid-long whole
+    let start = c .before .before .before .before .before in
+    let first = four-laid (now (start .args .buffer)) (start .args .at) 1 (start .args .n) (start .args .n + 1) (start .args .bias) in
+    laid-long (laid-behind first (c .before .before .lay-entries .ensures))
 
 returns : tie.Need-returns
 unfolding contentsOf
-returns c = laid-behind (four-laid _ _ _ _ _ _) (c .before .before .lay-entries .ensures)
+returns c =
+    let start = c .before .before .before .before .before in
+    let first = four-laid (now (start .args .buffer)) (start .args .at) 1 (start .args .n) (start .args .n + 1) (start .args .bias) in
+    laid-behind first (c .before .before .lay-entries .ensures)
 
 pub lay-contents-spec : {M : Type 1} → statement M
 lay-contents-spec =
