@@ -13,6 +13,7 @@ use numbers::SeamsAnswer;
 use numbers::StepAnswer;
 use numbers::SumAnswer;
 use numbers::TraceAnswer;
+use numbers::WriteAnswer;
 use places::Vertex;
 ghost use mathlib.Core.Path.{_≡_};
 ghost use mathlib.Core.List.{[], _∷_};
@@ -26,7 +27,9 @@ ghost use Rattle.small.specs.Small.{smallOpened, smallTraced};
 ghost use Rattle.numbers.specs.Numbers.{openNumbers, bodyEntry, bodyNumbers, judgeNumbers, groundNumbers, pointNumbers, stepNumbers};
 ghost use Rattle.seamlist.specs.JobSeams.{seamed, extentAndCount, seamsAfter};
 ghost use Rattle.nesting.specs.CutOrder.{ordered};
-ghost use Rattle.numbers.specs.Numbers.{traceNumbers, seamsNumbers, orderNumbers, isSet, penNumbers, sumNumbers};
+ghost use Rattle.jobfile.specs.Assembled.{handed};
+ghost use Rattle.jobfile.specs.Written.{written, bufferWritten};
+ghost use Rattle.numbers.specs.Numbers.{traceNumbers, seamsNumbers, orderNumbers, writeNumbers, isSet, penNumbers, sumNumbers};
 
 // Open.
 #[no_mangle]
@@ -115,6 +118,33 @@ pub extern "C" fn gethwapiko_cut_order(job: &[u8], places: &[u8]) -> OrderAnswer
     ensures { λ r. ⌜ r ≡ orderNumbers (ordered (now (job .entry)) (now (places .entry))) ⌝ }
 {
     numbers::order_numbers(cutorder::cut_order(job, places))
+}
+
+// Writing a job from loose bodies: it stands in the buffer from its front on; a refusal touches nothing.
+#[no_mangle]
+pub extern "C" fn gethwapiko_write_job<'a>(
+    n: u64,
+    bias: u8,
+    bounds: &'a [u8],
+    polynomial1: &'a [u8],
+    polynomial2: &'a [u8],
+    polynomial3: &'a [u8],
+    start: &'a [u8],
+    buffer: &mut [u8],
+) -> WriteAnswer
+    ensures answer { λ r. ⌜ r ≡ writeNumbers (written (handed n bias (now (bounds .entry)) (now (polynomial1 .entry)) (now (polynomial2 .entry)) (now (polynomial3 .entry)) (now (start .entry))) (now (buffer .entry))) ⌝ }
+    ensures written { λ r. ⌜ now (buffer .exit) ≡ bufferWritten (handed n bias (now (bounds .entry)) (now (polynomial1 .entry)) (now (polynomial2 .entry)) (now (polynomial3 .entry)) (now (start .entry))) (now (buffer .entry)) ⌝ }
+{
+    numbers::write_numbers(assemble::write_job(
+        n as usize,
+        bias,
+        bounds,
+        polynomial1,
+        polynomial2,
+        polynomial3,
+        start,
+        buffer,
+    ))
 }
 
 // The small bench cutter's Open.

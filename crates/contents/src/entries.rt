@@ -39,7 +39,7 @@ fn polynomial_length_ok(n: usize, l: usize) -> bool
 }
 
 // A body's length is right for its kind: box, polynomial or start.
-fn length_ok(n: usize, k: usize, l: usize) -> bool
+pub fn length_ok(n: usize, k: usize, l: usize) -> bool
     requires { ⌜ Axes n ⌝ }
     ensures { λ r. ⌜ r ≡ lengthOk n k l ⌝ }
 {

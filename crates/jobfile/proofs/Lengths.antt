@@ -5,8 +5,8 @@ use native.Mathlib.Omega.{arith}
 use mathlib.Core.Path.{_≡_, refl, sym, ap, ap₂, _∙_}
 use mathlib.Core.List.{List, _++_, append-assoc, append-nil}
 use lib.IntN.{pos}
-use lib.ListN.{length, drop, length-append}
-use lib.Seq.{sets, sets-eq}
+use lib.ListN.{length, take, drop, length-append, length-drop}
+use lib.Seq.{take-at, drop-at, sets, sets-eq}
 use Rattle.paper.specs.Bytes.{wordBytes}
 use Rattle.paper.specs.Job.{contentsEnd}
 use Rattle.jobfile.specs.Assembled.{entriesOf, bodiesOf, contentsOf, jobOf}
@@ -31,11 +31,16 @@ job-length n bias f =
 
 -- ---- the bodies that count
 
-pub entries-same : (f g : ℕ → List ℕ) (k m at : ℕ) → ((j : ℕ) → k ≤ j → j < k + m → f j ≡ g j) → entriesOf f k m at ≡ entriesOf g k m at
+-- the entries tell the bodies' lengths alone
+pub entries-by-length : (f g : ℕ → List ℕ) (k m at : ℕ) → ((j : ℕ) → k ≤ j → j < k + m → length (f j) ≡ length (g j))
+    → entriesOf f k m at ≡ entriesOf g k m at
 unfolding entriesOf
-entries-same f g k zero at h = refl
-entries-same f g k (suc m) at h =
-    rw (h k (omega arith) (omega arith), entries-same f g (k + 1) m (at + length (g k)) (λ j l u. h j (omega arith) (omega arith)))
+entries-by-length f g k zero at h = refl
+entries-by-length f g k (suc m) at h =
+    rw (h k (omega arith) (omega arith), entries-by-length f g (k + 1) m (at + length (g k)) (λ j l u. h j (omega arith) (omega arith)))
+
+pub entries-same : (f g : ℕ → List ℕ) (k m at : ℕ) → ((j : ℕ) → k ≤ j → j < k + m → f j ≡ g j) → entriesOf f k m at ≡ entriesOf g k m at
+entries-same f g k m at h = entries-by-length f g k m at (λ j l u. ap length (h j l u))
 
 pub bodies-same : (f g : ℕ → List ℕ) (k m : ℕ) → ((j : ℕ) → k ≤ j → j < k + m → f j ≡ g j) → bodiesOf f k m ≡ bodiesOf g k m
 unfolding bodiesOf
@@ -90,3 +95,17 @@ unfolding over
 sets-over s b h =
     let none : 0 + length s ≡ length s = omega arith in
     sets-eq s b 0 (omega arith) ∙ ap (λ k. s ++ drop k b) none
+
+-- the list itself in front, what the buffer held behind it, and the buffer's length
+module _ (s buffer : List ℕ) where
+  pub over-front : take (length s) (over s buffer) ≡ s
+  unfolding over
+  over-front = take-at s (drop (length s) buffer) (length s) refl
+
+  pub over-behind : drop (length s) (over s buffer) ≡ drop (length s) buffer
+  unfolding over
+  over-behind = drop-at s (drop (length s) buffer) (length s) refl
+
+  pub over-length : length s ≤ length buffer → length (over s buffer) ≡ length buffer
+  unfolding over
+  over-length h = omega (arith, length-append s (drop (length s) buffer), length-drop (length s) buffer)

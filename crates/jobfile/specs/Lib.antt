@@ -4,3 +4,4 @@ pub mod Written
 pub mod LooseRefusal
 pub mod WriteDemand
 pub mod Answers
+pub mod Own

@@ -26,6 +26,7 @@ use Rattle.seamlist.specs.JobSeams.{Extent, complete, full}
 use Rattle.nesting.specs.Standing.{Standing, stands, brokenAt}
 use Rattle.numbers.specs.declared.SeamsAnswer.{SeamsAnswer}
 use Rattle.numbers.specs.declared.OrderAnswer.{OrderAnswer}
+use Rattle.numbers.specs.declared.WriteAnswer.{WriteAnswer}
 use Rattle.numbers.specs.declared.TraceAnswer.{TraceAnswer}
 use Rattle.numbers.specs.declared.PenAnswer.{PenAnswer}
 use Rattle.numbers.specs.declared.SumAnswer.{SumAnswer}
@@ -152,6 +153,13 @@ unfoldable pub orderNumbers : Answer Standing → OrderAnswer
 orderNumbers (refused k) = record { refusal = k; stands = 0; position = 0 }
 orderNumbers (answered stands) = record { refusal = 0; stands = 1; position = 0 }
 orderNumbers (answered (brokenAt k)) = record { refusal = 0; stands = 0; position = k }
+
+-- ---- writing jobs
+
+-- the job's length
+unfoldable pub writeNumbers : Answer ℕ → WriteAnswer
+writeNumbers (refused k) = record { refusal = k; length = 0 }
+writeNumbers (answered l) = record { refusal = 0; length = l }
 
 -- ---- Pen and the running sum
 

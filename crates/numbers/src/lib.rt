@@ -3,6 +3,7 @@
 // where an answer does not use a field, the field is 0.
 
 use grounds::JudgedBy;
+use jobfile::JobWritten;
 use nesting::Ordered;
 use paper::Judged;
 use paper::Opened;
@@ -21,7 +22,8 @@ ghost use Rattle.grounds.specs.Judged.{judgedByAs};
 ghost use Rattle.numbers.specs.Numbers.{openNumbers, judgeNumbers, withoutPowers, withPowers, groundNumbers, pointNumbers};
 ghost use Rattle.seamlist.specs.Answers.{seamedAs};
 ghost use Rattle.nesting.specs.Answers.{orderedAs};
-ghost use Rattle.numbers.specs.Numbers.{seamsNumbers, orderNumbers};
+ghost use Rattle.jobfile.specs.Answers.{writtenAs};
+ghost use Rattle.numbers.specs.Numbers.{seamsNumbers, orderNumbers, writeNumbers};
 ghost use Rattle.numbers.specs.Numbers.{withoutPlace, stepNumbers, verdictNumber, traceNumbers, withoutPoint, penNumbers, sumNumbers};
 
 #[repr(C)]
@@ -107,6 +109,13 @@ pub struct OrderAnswer {
     pub refusal: u64,
     pub stands: u64,
     pub position: u64,
+}
+
+// The length of the job written.
+#[repr(C)]
+pub struct WriteAnswer {
+    pub refusal: u64,
+    pub length: u64,
 }
 
 // Kind 0: lift; 1: draw; 2: close. In millimetres.
@@ -364,6 +373,16 @@ pub fn order_numbers(answer: Ordered) -> OrderAnswer
             stands: 0,
             position,
         },
+    }
+}
+
+// The answer of writing a job.
+pub fn write_numbers(answer: JobWritten) -> WriteAnswer
+    ensures { λ r. ⌜ r ≡ writeNumbers (writtenAs answer) ⌝ }
+{
+    match answer {
+        JobWritten::Refused(refusal) => WriteAnswer { refusal, length: 0 },
+        JobWritten::Length(length) => WriteAnswer { refusal: 0, length },
     }
 }
 

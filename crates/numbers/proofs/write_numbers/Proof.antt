@@ -1,0 +1,19 @@
+-- `numbers::write_numbers` meets its contract: each constructor has its numbers.
+use mathlib.Core.Path.{sym, ap}
+use borrow.Author.Needs.{needs}
+use Rattle.jobfile.specs.declared.JobWritten.{JobWritten}
+use Rattle.jobfile.specs.Answers.{writtenAs}
+use Rattle.numbers.specs.Numbers.{writeNumbers}
+use Rattle.numbers.proofs.write_numbers.Statement.{statement}
+use Rattle.numbers.proofs.write_numbers.Tie as tie
+
+returns : tie.Need-returns
+unfolding writtenAs writeNumbers
+returns c = ap (λ (a : JobWritten). writeNumbers (writtenAs a)) (sym (c .before .answer .given .1))
+
+returns-2 : tie.Need-returns-2
+unfolding writtenAs writeNumbers
+returns-2 c = ap (λ (a : JobWritten). writeNumbers (writtenAs a)) (sym (c .before .answer2 .given .1))
+
+pub write-numbers-spec : {M : Type 1} → statement M
+write-numbers-spec = tie.close (tie.spec (λ c. search needs) (λ c. search needs) returns returns-2)
