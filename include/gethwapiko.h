@@ -3,13 +3,13 @@
  * Each function answers exactly what the definition of document 01 and of the requests says, for every input; the proof is in crates/cabi, and that
  * of the structs' numbers in crates/numbers.
  * Bytes are handed over as a pointer and a count, and the pointer must be good for that many bytes. Nothing is kept between calls,
- * nothing is allocated, and only the buffer of a trace or of the seams is written; it must not overlap the job.
+ * nothing is allocated, and only the buffer of a trace, of the seams or of a job to be written is written; it must not overlap what is read.
  *
  * The field `refusal` is 0 or the number of the refusal; beside a refusal every other field is 0.
  * A field that an answer does not use is 0: terms2, z and mask2 in dimension 2, terms3, w and mask3 below dimension 4, the place of an
  * edge, the point of a close, the vertex, the powers and n that a ground does not name.
  *
- * Refusals, in the order in which Open tests them; every other function opens the job first:
+ * Refusals, in the order in which Open tests them; every other function that is handed a job opens it first:
  *    1  fewer than 4 bytes                 5  contents cut short, bodies not adjacent, or a length wrong for its kind
  *    2  byte 0 wrong                       6  box
  *    3  dimension not 2, 3 or 4            7  a term, or the order of terms
@@ -19,13 +19,16 @@
  *   10  a vertex value not readable       13  the place is not 3n bytes or is malformed; for Pen and the order of cutting first, a length that is no multiple of 3n
  *   11  not crossed
  *   18  for the order of cutting alone, behind 11: the place's trace is no loop, or its loop already came
+ * and for writing a job alone, behind 8:
+ *   16  the buffer is shorter than the job
  * and by the small bench cutter's two functions alone, tested after 8 and before 9:
  *   17  a box end outside -64 to 64, or a polynomial with over 16 terms
  *
  * A place is 3n bytes, little-endian: n signed 16-bit coordinates of the lowest vertex, n - 1 masks, a side 0 or 1.
  *
  * Byte 3 of a job is its bias, 0 to 255: a value no larger in size counts as 0 in every function that goes by values. It is tested for
- * readable before, so a bias changes no refusal 9 or 10. 0 is no bias; a caller may set the byte in place: job[GETHWAPIKO_BIAS] = 1.
+ * readable before, so a bias changes no refusal 9 or 10. 0 is no bias; a caller may set the byte in place: job[GETHWAPIKO_BIAS] = 1, or have it
+ * written.
  */
 #ifndef GETHWAPIKO_H
 #define GETHWAPIKO_H
@@ -107,6 +110,11 @@ typedef struct {
     uint64_t position; /* if it does not: the first position, counted from 0, whose loop has a later listed loop inside it */
 } OrderAnswer;
 
+typedef struct {
+    uint64_t refusal;
+    uint64_t length; /* of the job written, from the buffer's front on; never 0 where there is no refusal */
+} WriteAnswer;
+
 enum { GETHWAPIKO_LIFT = 0, GETHWAPIKO_DRAW = 1, GETHWAPIKO_CLOSE = 2 };
 
 typedef struct {
@@ -164,6 +172,19 @@ SeamsAnswer gethwapiko_seams(const uint8_t *job, size_t job_length, uint8_t *buf
  * stands. Refusals 3 (another dimension), 13 (a length that is no multiple of 3n), then position by position 13, 9, 10, 11, 18, all of one position
  * before the next. Nothing is written. Of k loops the earlier of each pair is walked once: k * k / 2 walks. */
 OrderAnswer gethwapiko_cut_order(const uint8_t *job, size_t job_length, const uint8_t *places, size_t places_length);
+
+/* No job is longer: 24 bytes of contents, 16 of box, three polynomials of 560, 12 of start. */
+enum { GETHWAPIKO_LONGEST_JOB = 1732 };
+
+/* Writing a job: the job file from loose bodies, its contents first, the bodies behind them, written to the buffer from its front; the answer is the
+ * job's length, and bytes behind the job keep their values. The bodies are those of a job: the box, 4n bytes; polynomials, 8 bytes a term; the start,
+ * 3n bytes. Of the three polynomials the first n - 1 are read; for the others any good pointer with length 0 will do. What is written opens to the same
+ * bodies, dimension and bias, and a job that opens is written again byte by byte from its own bodies (gethwapiko_body says where they lie).
+ * Refusals 3, 5, 6, 7, 8 as gethwapiko_open would give them of the job written (a body too long for its 16-bit entry is 5), then 16 if the buffer is
+ * shorter than the job; a refusal touches nothing. A buffer of GETHWAPIKO_LONGEST_JOB bytes is never too short. */
+WriteAnswer gethwapiko_write_job(uint64_t n, uint8_t bias, const uint8_t *box, size_t box_length, const uint8_t *polynomial1,
+                                 size_t polynomial1_length, const uint8_t *polynomial2, size_t polynomial2_length, const uint8_t *polynomial3,
+                                 size_t polynomial3_length, const uint8_t *start, size_t start_length, uint8_t *buffer, size_t buffer_length);
 
 /* The small bench cutter, whose controller takes box ends from -64 to 64 and at most 16 terms a polynomial, in dimensions 2, 3 and 4. Each function
  * answers refusal 17, or exactly what the one without `small` in its name answers, the buffer included; 17 exactly if that one opens the job and a

@@ -12,12 +12,12 @@ use Rattle.paper.specs.Limits.{dimensionOk}
 use Rattle.paper.specs.Job.{contentsEnd, openRefusal}
 use Rattle.paper.specs.Operations.{Answer, refused, answered}
 use Rattle.paper.proofs.Refusals.{not-refused, refuse-later}
-use Rattle.jobfile.specs.Assembled.{Loose, handed, bodyOf, bodiesOf, jobOf, assembled}
-use Rattle.jobfile.specs.Written.{over, written, bufferWritten}
-use Rattle.jobfile.specs.LooseRefusal.{lengthsOk, formRefusal, looseRefusal}
-use Rattle.jobfile.proofs.Lengths.{job-length, job-same, sets-over}
-use Rattle.jobfile.proofs.OpensTo.{opens-to}
-use Rattle.jobfile.proofs.WriteAnswers.{write-loose, write-not-dimension, write-no-room, write-room, refused-nothing}
+use Rattle.assembly.specs.Assembled.{Loose, handed, bodyOf, bodiesOf, jobOf, assembled}
+use Rattle.assembly.specs.Written.{over, written, bufferWritten}
+use Rattle.assembly.specs.LooseRefusal.{lengthsOk, formRefusal, looseRefusal}
+use Rattle.assembly.proofs.Lengths.{job-length, job-same, sets-over}
+use Rattle.assembly.proofs.OpensTo.{opens-to}
+use Rattle.assembly.proofs.WriteAnswers.{write-loose, write-not-dimension, write-no-room, write-room, refused-nothing}
 use Rattle.laying.specs.Laid.{Laid}
 use Rattle.loose.specs.Arranged.{Arranged}
 

@@ -1,11 +1,11 @@
 // Writing jobs: document 02, request 2.2. The loose bodies are tested first; then the writer lays contents and bodies in the caller's buffer.
 
+use assembly::JobWritten;
 use contents::limits;
-use jobfile::JobWritten;
 ghost use mathlib.Core.Path.{_≡_};
-ghost use Rattle.jobfile.specs.Assembled.{handed};
-ghost use Rattle.jobfile.specs.Written.{written, bufferWritten};
-ghost use Rattle.jobfile.specs.Answers.{writtenAs};
+ghost use Rattle.assembly.specs.Assembled.{handed};
+ghost use Rattle.assembly.specs.Written.{written, bufferWritten};
+ghost use Rattle.assembly.specs.Answers.{writtenAs};
 
 // Writing a job: the refusal's number, or its length. The job stands in the buffer from its front on; a refusal touches nothing.
 pub fn write_job<'a>(

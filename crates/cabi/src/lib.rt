@@ -27,8 +27,8 @@ ghost use Rattle.small.specs.Small.{smallOpened, smallTraced};
 ghost use Rattle.numbers.specs.Numbers.{openNumbers, bodyEntry, bodyNumbers, judgeNumbers, groundNumbers, pointNumbers, stepNumbers};
 ghost use Rattle.seamlist.specs.JobSeams.{seamed, extentAndCount, seamsAfter};
 ghost use Rattle.nesting.specs.CutOrder.{ordered};
-ghost use Rattle.jobfile.specs.Assembled.{handed};
-ghost use Rattle.jobfile.specs.Written.{written, bufferWritten};
+ghost use Rattle.assembly.specs.Assembled.{handed};
+ghost use Rattle.assembly.specs.Written.{written, bufferWritten};
 ghost use Rattle.numbers.specs.Numbers.{traceNumbers, seamsNumbers, orderNumbers, writeNumbers, isSet, penNumbers, sumNumbers};
 
 // Open.

@@ -8,8 +8,8 @@ use lib.IntN.{pos}
 use lib.ListN.{length, set, length-append}
 use lib.Seq.{sets, length-sets}
 use Rattle.paper.specs.Bytes.{wordBytes}
-use Rattle.jobfile.specs.Assembled.{entriesOf, bodiesOf}
-use Rattle.jobfile.proofs.Lengths.{bodies-snoc, entries-snoc}
+use Rattle.assembly.specs.Assembled.{entriesOf, bodiesOf}
+use Rattle.assembly.proofs.Lengths.{bodies-snoc, entries-snoc}
 use Rattle.laying.specs.Laid.{Laid}
 use Rattle.laying.proofs.Sets.{sets-append}
 

@@ -6,7 +6,7 @@ ghost use Prim.Native.Nat.{_+_, _*_, _≤_};
 ghost use lib.ListN.{length};
 ghost use Rattle.paper.specs.Bytes.{wordBytes};
 ghost use Rattle.paper.specs.Job.{contentsEnd};
-ghost use Rattle.jobfile.specs.Assembled.{entriesOf, bodiesOf, contentsOf, jobOf};
+ghost use Rattle.assembly.specs.Assembled.{entriesOf, bodiesOf, contentsOf, jobOf};
 ghost use Rattle.laying.specs.Laid.{bodyAt, Laid};
 
 // The low 16 bits of a number, the low byte first.

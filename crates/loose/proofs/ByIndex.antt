@@ -4,7 +4,7 @@ use native.Mathlib.Omega.{arith}
 use mathlib.Core.Path.{_≡_, refl, sym, subst}
 use mathlib.Core.List.{List, [], _∷_}
 use denote.Ref.{RefT, now}
-use Rattle.jobfile.specs.Assembled.{Loose, handed, bodyOf}
+use Rattle.assembly.specs.Assembled.{Loose, handed, bodyOf}
 use Rattle.laying.specs.Laid.{bodyAt}
 use Rattle.loose.specs.Arranged.{Arranged}
 

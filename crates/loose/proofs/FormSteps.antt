@@ -9,7 +9,7 @@ use Rattle.curves.specs.Grid.{placeOk}
 use Rattle.paper.specs.Job.{lengthOk, boxOk, allFrom, polynomialOk, decodePlace, refuseIf}
 use Rattle.paper.proofs.Tests.{all-at}
 use Rattle.paper.proofs.Bodies.{box-kind, start-kind}
-use Rattle.jobfile.specs.LooseRefusal.{lengthsOk, formRefusal}
+use Rattle.assembly.specs.LooseRefusal.{lengthsOk, formRefusal}
 
 module _ (n : ℕ) (f : ℕ → List ℕ) where
   -- a body of the right length has the length of its kind

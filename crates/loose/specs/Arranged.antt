@@ -2,7 +2,7 @@
 use Prim.Native.Nat.{ℕ, _≤_}
 use mathlib.Core.Path.{_≡_}
 use mathlib.Core.List.{List}
-use Rattle.jobfile.specs.Assembled.{Loose, bodyOf}
+use Rattle.assembly.specs.Assembled.{Loose, bodyOf}
 
 -- body k of the job stands at index k
 unfoldable pub Arranged : Loose → (ℕ → List ℕ) → Type 0

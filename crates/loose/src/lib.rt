@@ -9,8 +9,8 @@ ghost use Prim.Native.Nat.{_+_, _-_};
 ghost use lib.ListN.{length};
 ghost use Rattle.paper.specs.Job.{contentsEnd, allFrom, polynomialOk};
 ghost use Rattle.bits.specs.Axes.{Axes};
-ghost use Rattle.jobfile.specs.Assembled.{handed, bodiesOf};
-ghost use Rattle.jobfile.specs.LooseRefusal.{lengthsOk, formRefusal};
+ghost use Rattle.assembly.specs.Assembled.{handed, bodiesOf};
+ghost use Rattle.assembly.specs.LooseRefusal.{lengthsOk, formRefusal};
 ghost use Rattle.laying.specs.Laid.{bodyAt};
 ghost use Rattle.loose.specs.Arranged.{Arranged};
 

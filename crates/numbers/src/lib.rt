@@ -2,8 +2,8 @@
 // stand apart from the C functions since they need no job, and an edit checks its whole crate again. Refusal 0 is none; beside a refusal, and
 // where an answer does not use a field, the field is 0.
 
+use assembly::JobWritten;
 use grounds::JudgedBy;
-use jobfile::JobWritten;
 use nesting::Ordered;
 use paper::Judged;
 use paper::Opened;
@@ -22,7 +22,7 @@ ghost use Rattle.grounds.specs.Judged.{judgedByAs};
 ghost use Rattle.numbers.specs.Numbers.{openNumbers, judgeNumbers, withoutPowers, withPowers, groundNumbers, pointNumbers};
 ghost use Rattle.seamlist.specs.Answers.{seamedAs};
 ghost use Rattle.nesting.specs.Answers.{orderedAs};
-ghost use Rattle.jobfile.specs.Answers.{writtenAs};
+ghost use Rattle.assembly.specs.Answers.{writtenAs};
 ghost use Rattle.numbers.specs.Numbers.{seamsNumbers, orderNumbers, writeNumbers};
 ghost use Rattle.numbers.specs.Numbers.{withoutPlace, stepNumbers, verdictNumber, traceNumbers, withoutPoint, penNumbers, sumNumbers};
 

@@ -5,7 +5,7 @@ use mathlib.Core.Path.{refl}
 use mathlib.Core.List.{List}
 use lib.ListN.{length, length-append}
 use lib.Seq.{sets, length-sets}
-use Rattle.jobfile.specs.Assembled.{bodiesOf, contentsOf, jobOf}
+use Rattle.assembly.specs.Assembled.{bodiesOf, contentsOf, jobOf}
 use Rattle.laying.specs.Laid.{Laid}
 use Rattle.laying.proofs.Behind.{laid-behind}
 

@@ -4,7 +4,7 @@
 ghost use mathlib.Core.Path.{_≡_};
 ghost use Prim.Native.Nat.{_+_, _≤_};
 ghost use lib.ListN.{length};
-ghost use Rattle.jobfile.specs.Assembled.{bodiesOf, contentsOf, jobOf};
+ghost use Rattle.assembly.specs.Assembled.{bodiesOf, contentsOf, jobOf};
 ghost use Rattle.laying.specs.Laid.{bodyAt, Laid};
 ghost use Rattle.writer.specs.Advanced.{advanced};
 

@@ -11,9 +11,9 @@ use Rattle.paper.specs.Limits.{dimensionOk}
 use Rattle.paper.proofs.RangeSteps.{test-failed, test-passed}
 use Rattle.bits.specs.Axes.{Axes}
 use Rattle.bits.proofs.EachDimension.{dimension-axes}
-use Rattle.jobfile.specs.Assembled.{Loose, handed, assembled}
-use Rattle.jobfile.specs.LooseRefusal.{formRefusal}
-use Rattle.jobfile.specs.Answers.{writtenAs}
+use Rattle.assembly.specs.Assembled.{Loose, handed, assembled}
+use Rattle.assembly.specs.LooseRefusal.{formRefusal}
+use Rattle.assembly.specs.Answers.{writtenAs}
 use Rattle.laying.specs.Laid.{bodyAt}
 use Rattle.loose.specs.Arranged.{Arranged}
 use Rattle.assemble.proofs.Outcomes.{any-bias, right-lengths, length-is, job-long, no-dimension, wrong-form, no-room, laid}

@@ -4,7 +4,7 @@ use native.Mathlib.Omega.{arith}
 use mathlib.Core.Path.{_≡_, ap}
 use lib.ListN.{length}
 use denote.Ref.{now}
-use Rattle.jobfile.specs.Assembled.{bodiesOf}
+use Rattle.assembly.specs.Assembled.{bodiesOf}
 use Rattle.laying.specs.Laid.{bodyAt, Laid}
 use Rattle.laying.proofs.Behind.{laid-none, laid-as, laid-long, body-more, body-room}
 use Rattle.laying.proofs.BodyRead.{body-read}

@@ -4,8 +4,8 @@ use native.Mathlib.Omega.{arith}
 use lib.ListN.{length, length-set}
 use denote.Ref.{now}
 use Rattle.paper.specs.Job.{contentsEnd}
-use Rattle.jobfile.specs.Assembled.{bodiesOf, contentsOf}
-use Rattle.jobfile.proofs.Lengths.{job-length}
+use Rattle.assembly.specs.Assembled.{bodiesOf, contentsOf}
+use Rattle.assembly.proofs.Lengths.{job-length}
 use Rattle.laying.specs.Laid.{bodyAt}
 use Rattle.laying.proofs.Behind.{laid-behind, laid-long, four-laid}
 use borrow.Author.Needs.{needs}

@@ -8,8 +8,8 @@ use lib.ListN.{length}
 use denote.Ref.{now}
 use Rattle.paper.specs.Bytes.{wordBytes}
 use Rattle.paper.specs.Job.{contentsEnd}
-use Rattle.jobfile.specs.Assembled.{bodiesOf, entriesOf}
-use Rattle.jobfile.proofs.Lengths.{entries-length}
+use Rattle.assembly.specs.Assembled.{bodiesOf, entriesOf}
+use Rattle.assembly.proofs.Lengths.{entries-length}
 use Rattle.laying.specs.Laid.{bodyAt, Laid}
 use Rattle.laying.proofs.Behind.{laid-none, laid-as, laid-long, entry-more, offset-more, body-room}
 use Rattle.laying.proofs.BodyRead.{body-read}

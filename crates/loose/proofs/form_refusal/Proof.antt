@@ -8,7 +8,7 @@ use borrow.Author.Needs.{needs}
 use Rattle.curves.specs.Grid.{placeOk}
 use Rattle.paper.specs.Job.{boxOk, allFrom, polynomialOk, decodePlace}
 use Rattle.paper.proofs.RangeSteps.{test-failed, test-passed}
-use Rattle.jobfile.specs.LooseRefusal.{lengthsOk}
+use Rattle.assembly.specs.LooseRefusal.{lengthsOk}
 use Rattle.laying.specs.Laid.{bodyAt}
 use Rattle.laying.proofs.BodyRead.{body-read}
 use Rattle.loose.proofs.FormSteps.{box-long, start-long, refuse-lengths, refuse-box, refuse-terms, refuse-start, no-refusal}

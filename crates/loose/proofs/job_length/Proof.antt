@@ -8,9 +8,9 @@ use lib.ListN.{length, getD}
 use denote.Ref.{now}
 use Rattle.paper.specs.Job.{contentsEnd}
 use Rattle.bits.specs.Axes.{Axes}
-use Rattle.jobfile.specs.Assembled.{bodiesOf}
-use Rattle.jobfile.specs.LooseRefusal.{lengthsOk}
-use Rattle.jobfile.proofs.Entries.{kind-small}
+use Rattle.assembly.specs.Assembled.{bodiesOf}
+use Rattle.assembly.specs.LooseRefusal.{lengthsOk}
+use Rattle.assembly.proofs.Entries.{kind-small}
 use Rattle.laying.specs.Laid.{bodyAt}
 use Rattle.laying.proofs.Behind.{offset-more}
 use Rattle.laying.proofs.BodyRead.{body-read}

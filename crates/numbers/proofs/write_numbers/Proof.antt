@@ -1,8 +1,8 @@
 -- `numbers::write_numbers` meets its contract: each constructor has its numbers.
 use mathlib.Core.Path.{sym, ap}
 use borrow.Author.Needs.{needs}
-use Rattle.jobfile.specs.declared.JobWritten.{JobWritten}
-use Rattle.jobfile.specs.Answers.{writtenAs}
+use Rattle.assembly.specs.declared.JobWritten.{JobWritten}
+use Rattle.assembly.specs.Answers.{writtenAs}
 use Rattle.numbers.specs.Numbers.{writeNumbers}
 use Rattle.numbers.proofs.write_numbers.Statement.{statement}
 use Rattle.numbers.proofs.write_numbers.Tie as tie

@@ -42,7 +42,7 @@ use denote.Triple.Table.{entered, cited}
 use denote.Triple.Walked.{says, needs, Stays, stay-none, gave-slice, walkOf, goes-none, goes-gave-slice, Walks, ends-at, walked, walk-meets}
 use denote.Exit.{yes}
 use denote.Signature.{plain}
-use Rattle.jobfile.specs.Assembled.{bodiesOf, contentsOf, jobOf}
+use Rattle.assembly.specs.Assembled.{bodiesOf, contentsOf, jobOf}
 use Rattle.laying.specs.Laid.{bodyAt, Laid}
 use Rattle.writer.specs.declared.Writer.{Writer}
 use Rattle.writer.specs.Advanced.{advanced}

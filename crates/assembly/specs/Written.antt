@@ -5,7 +5,7 @@ use lib.ListN.{length, drop}
 use lib.Dec.{ltb}
 use Rattle.paper.specs.Job.{refuseIf, openRefusal}
 use Rattle.paper.specs.Operations.{Answer, unless, firstRefusal}
-use Rattle.jobfile.specs.Assembled.{Loose, assembled}
+use Rattle.assembly.specs.Assembled.{Loose, assembled}
 
 -- as opening the result would give them, then 16 if the buffer is shorter than the job
 unfoldable pub writeRefusal : Loose → List ℕ → ℕ

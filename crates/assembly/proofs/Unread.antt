@@ -7,9 +7,9 @@ use mathlib.Core.List.{List, []}
 use lib.ListN.{getD}
 use lib.Dec.{eqb}
 use borrow.Author.Tests.{eqb-false}
-use Rattle.jobfile.specs.Assembled.{Loose, bodyOf, jobOf, assembled}
-use Rattle.jobfile.specs.Written.{writeRefusal, written, bufferWritten}
-use Rattle.jobfile.proofs.Lengths.{job-same}
+use Rattle.assembly.specs.Assembled.{Loose, bodyOf, jobOf, assembled}
+use Rattle.assembly.specs.Written.{writeRefusal, written, bufferWritten}
+use Rattle.assembly.proofs.Lengths.{job-same}
 
 module _ (d e : Loose) (n-same : d .n ≡ e .n) (bias-same : d .bias ≡ e .bias) (box-same : d .box ≡ e .box) (start-same : d .start ≡ e .start)
     (first-same : (k : ℕ) → k < d .n - 1 → getD (d .polynomials) k [] ≡ getD (e .polynomials) k []) where

@@ -9,8 +9,8 @@ use lib.ListN.{length, take, drop, length-append, length-drop}
 use lib.Seq.{take-at, drop-at, sets, sets-eq}
 use Rattle.paper.specs.Bytes.{wordBytes}
 use Rattle.paper.specs.Job.{contentsEnd}
-use Rattle.jobfile.specs.Assembled.{entriesOf, bodiesOf, contentsOf, jobOf}
-use Rattle.jobfile.specs.Written.{over}
+use Rattle.assembly.specs.Assembled.{entriesOf, bodiesOf, contentsOf, jobOf}
+use Rattle.assembly.specs.Written.{over}
 
 -- ---- lengths
 

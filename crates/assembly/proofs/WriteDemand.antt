@@ -10,13 +10,13 @@ use Rattle.paper.specs.Job.{dimension, bias, openRefusal}
 use Rattle.paper.specs.Operations.{answered, bodyRefusal, bodyPart}
 use Rattle.paper.proofs.Refusals.{first-passes, refuse-later}
 use Rattle.paper.proofs.Bodies.{given-part}
-use Rattle.jobfile.specs.Assembled.{Loose, bodyOf, assembled}
-use Rattle.jobfile.specs.Written.{written, over, bufferWritten}
-use Rattle.jobfile.specs.LooseRefusal.{looseRefusal}
-use Rattle.jobfile.specs.WriteDemand.{WriteDemand}
-use Rattle.jobfile.proofs.Lengths.{over-front, over-behind, over-length}
-use Rattle.jobfile.proofs.OpensTo.{job-dimension, job-bias, same-body, opens-to}
-use Rattle.jobfile.proofs.WriteAnswers.{write-given, loose-form}
+use Rattle.assembly.specs.Assembled.{Loose, bodyOf, assembled}
+use Rattle.assembly.specs.Written.{written, over, bufferWritten}
+use Rattle.assembly.specs.LooseRefusal.{looseRefusal}
+use Rattle.assembly.specs.WriteDemand.{WriteDemand}
+use Rattle.assembly.proofs.Lengths.{over-front, over-behind, over-length}
+use Rattle.assembly.proofs.OpensTo.{job-dimension, job-bias, same-body, opens-to}
+use Rattle.assembly.proofs.WriteAnswers.{write-given, loose-form}
 
 module _ (d : Loose) (h : looseRefusal (d .n) (bodyOf d) ≡ 0) where
   written-opens : openRefusal (assembled d) ≡ 0

@@ -10,10 +10,10 @@ use Rattle.paper.specs.Job.{contentsEnd}
 use Rattle.paper.proofs.Tests.{all-at, dimension-range}
 use Rattle.paper.proofs.TermLimit.{term-limit-most}
 use Rattle.paper.proofs.Bodies.{box-kind, start-kind, polynomial-kind}
-use Rattle.jobfile.specs.Assembled.{bodiesOf, jobOf}
-use Rattle.jobfile.specs.LooseRefusal.{lengthsOk}
-use Rattle.jobfile.proofs.Lengths.{job-length, bodies-snoc}
-use Rattle.jobfile.proofs.Entries.{kindOk}
+use Rattle.assembly.specs.Assembled.{bodiesOf, jobOf}
+use Rattle.assembly.specs.LooseRefusal.{lengthsOk}
+use Rattle.assembly.proofs.Lengths.{job-length, bodies-snoc}
+use Rattle.assembly.proofs.Entries.{kindOk}
 
 bodies-most : (f : ℕ → List ℕ) (k m : ℕ) → ((j : ℕ) → k ≤ j → j < k + m → length (f j) ≤ 560) → length (bodiesOf f k m) ≤ 560 * m
 unfolding bodiesOf

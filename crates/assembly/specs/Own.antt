@@ -4,7 +4,7 @@ use mathlib.Core.List.{List, _++_, map}
 use Rattle.exact.specs.Crossed.{countFrom}
 use Rattle.paper.specs.Job as Job
 use Rattle.paper.specs.Job.{dimension, body}
-use Rattle.jobfile.specs.Assembled.{Loose}
+use Rattle.assembly.specs.Assembled.{Loose}
 
 -- dimension, bias, box, polynomials and start of a job, with any further polynomials behind its own
 unfoldable pub ownBodies : List ℕ → List (List ℕ) → Loose

@@ -6,7 +6,7 @@ use mathlib.Core.List.{List}
 use lib.ListN.{length, take, drop}
 use Rattle.paper.specs.Job.{dimension, bias, openRefusal}
 use Rattle.paper.specs.Operations.{bodyPart}
-use Rattle.jobfile.specs.Assembled.{Loose, bodyOf}
+use Rattle.assembly.specs.Assembled.{Loose, bodyOf}
 
 pub record WriteDemand (d : Loose) (buffer after : List ℕ) (l : ℕ) : Type 0 where
   -- The buffer is no shorter than the job, and as long as it was.

@@ -18,11 +18,11 @@ use Rattle.paper.specs.Job.{dimension, contentsEnd, entriesOk, contentsOk, body
 use Rattle.paper.specs.Operations.{firstRefusal}
 use Rattle.paper.proofs.Tests.{all-same, all-fails-at, dimension-range}
 use Rattle.paper.proofs.Refusals.{refuse-here, refuse-later}
-use Rattle.jobfile.specs.Assembled.{Loose, bodyOf, entriesOf, bodiesOf, contentsOf, jobOf, assembled}
-use Rattle.jobfile.specs.Written.{writeRefusal}
-use Rattle.jobfile.specs.LooseRefusal.{lengthsOk, formRefusal, looseRefusal}
-use Rattle.jobfile.proofs.Lengths.{contents-length, job-length}
-use Rattle.jobfile.proofs.Entries.{Fits, kind-small, kindOk, entries-passed, entries-pass, bodies-read}
+use Rattle.assembly.specs.Assembled.{Loose, bodyOf, entriesOf, bodiesOf, contentsOf, jobOf, assembled}
+use Rattle.assembly.specs.Written.{writeRefusal}
+use Rattle.assembly.specs.LooseRefusal.{lengthsOk, formRefusal, looseRefusal}
+use Rattle.assembly.proofs.Lengths.{contents-length, job-length}
+use Rattle.assembly.proofs.Entries.{Fits, kind-small, kindOk, entries-passed, entries-pass, bodies-read}
 
 -- Open's tests behind that of the contents, 6 to 8: box, terms and start. They look at bodies 0 to n
 abbrev behindLengths : ℕ → (ℕ → List ℕ) → ℕ

@@ -16,7 +16,7 @@ use Rattle.paper.specs.Job.{entryOffset, entryLength, lengthOk, entriesOk, allF
 use Rattle.paper.proofs.WordBytes.{word-together}
 use Rattle.paper.proofs.TermLimit.{term-limit-most}
 use Rattle.paper.proofs.Bodies.{entries-first, entries-none, box-kind, start-kind, polynomial-kind}
-use Rattle.jobfile.specs.Assembled.{entriesOf, bodiesOf}
+use Rattle.assembly.specs.Assembled.{entriesOf, bodiesOf}
 
 -- ---- one entry
 

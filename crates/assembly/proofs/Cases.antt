@@ -10,11 +10,11 @@ use Rattle.paper.specs.Operations.{Answer, refused, answered}
 use Rattle.paper.specs.Bias.{withBias}
 use Rattle.paper.proofs.Cases.{bodyOffsets, caseA, caseC}
 use Rattle.paper.proofs.Jobs.{caseC4}
-use Rattle.jobfile.specs.Assembled as Assembled
-use Rattle.jobfile.specs.Assembled.{Loose, handed, assembled}
-use Rattle.jobfile.specs.Written as Written
-use Rattle.jobfile.specs.Written.{written, bufferWritten}
-use Rattle.jobfile.proofs.WriteAnswers.{write-too-long}
+use Rattle.assembly.specs.Assembled as Assembled
+use Rattle.assembly.specs.Assembled.{Loose, handed, assembled}
+use Rattle.assembly.specs.Written as Written
+use Rattle.assembly.specs.Written.{written, bufferWritten}
+use Rattle.assembly.proofs.WriteAnswers.{write-too-long}
 
 -- ---- the loose bodies of case A
 

@@ -12,11 +12,11 @@ use Rattle.paper.specs.Job.{refuseIf}
 use Rattle.paper.specs.Operations.{refused, answered, unless}
 use Rattle.paper.proofs.Refusals.{not-refused, refuse-here, refuse-later, neither-refused, first-refuses, first-passes}
 use Rattle.paper.proofs.Refusals.{unless-refused, unless-answered, answered-inv}
-use Rattle.jobfile.specs.Assembled.{Loose, bodyOf, assembled}
-use Rattle.jobfile.specs.Written.{writeRefusal, written, over, overUnless, bufferWritten}
-use Rattle.jobfile.specs.LooseRefusal.{lengthsOk, formRefusal, looseRefusal}
-use Rattle.jobfile.proofs.Short.{job-short}
-use Rattle.jobfile.proofs.OpensTo.{opens-to, too-long-five, write-refusal-is}
+use Rattle.assembly.specs.Assembled.{Loose, bodyOf, assembled}
+use Rattle.assembly.specs.Written.{writeRefusal, written, over, overUnless, bufferWritten}
+use Rattle.assembly.specs.LooseRefusal.{lengthsOk, formRefusal, looseRefusal}
+use Rattle.assembly.proofs.Short.{job-short}
+use Rattle.assembly.proofs.OpensTo.{opens-to, too-long-five, write-refusal-is}
 
 -- the numbers with which the operation turns away: no dimension, a length, the box, a term, the start, the buffer
 pub data WriteNumber (k : ℕ) : Type 0 where

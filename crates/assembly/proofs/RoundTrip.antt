@@ -20,10 +20,10 @@ use Rattle.paper.specs.Operations.{answered}
 use Rattle.paper.proofs.Refusals.{first-passes, refuse-later, unless-answered}
 use Rattle.paper.proofs.Opens.{Opens, opens, opens-range}
 use Rattle.paper.proofs.Bodies.{entries-first, entries-none, contents-long, contents-body-length, body-length, last-end, start-length}
-use Rattle.jobfile.specs.Assembled.{Loose, bodyOf, entriesOf, bodiesOf, contentsOf, jobOf, assembled}
-use Rattle.jobfile.specs.Written.{writeRefusal, written, over, overUnless, bufferWritten}
-use Rattle.jobfile.specs.Own.{ownBodies, otherStart}
-use Rattle.jobfile.proofs.Lengths.{entries-by-length, bodies-same, job-same, bodies-snoc}
+use Rattle.assembly.specs.Assembled.{Loose, bodyOf, entriesOf, bodiesOf, contentsOf, jobOf, assembled}
+use Rattle.assembly.specs.Written.{writeRefusal, written, over, overUnless, bufferWritten}
+use Rattle.assembly.specs.Own.{ownBodies, otherStart}
+use Rattle.assembly.proofs.Lengths.{entries-by-length, bodies-same, job-same, bodies-snoc}
 
 -- ---- the bytes of what was read
 

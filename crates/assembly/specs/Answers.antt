@@ -1,7 +1,7 @@
 -- The answer of the code, as the request's numbers.
 use Prim.Native.Nat.{ℕ}
 use Rattle.paper.specs.Operations.{Answer, refused, answered}
-use Rattle.jobfile.specs.declared.JobWritten as JobWritten
+use Rattle.assembly.specs.declared.JobWritten as JobWritten
 
 unfoldable pub writtenAs : JobWritten.JobWritten → Answer ℕ
 writtenAs (JobWritten.the-variants.Refused k) = refused k
