@@ -1,12 +1,13 @@
-//! What the bench calls by the C interface itself: Open, the list of seams and the order of cutting of
-//! the proved library, and Open, Trace and, if it has them, the list of seams and the order of cutting
-//! of an earlier state of it, if one is linked (`build.rs`).
+//! What the bench calls by the C interface itself: Open, the list of seams, the order of cutting and
+//! the writer of jobs of the proved library, and Open, Trace and, if it has them, the list of seams,
+//! the order of cutting and the writer of an earlier state of it, if one is linked (`build.rs`).
 
 #[cfg(before)]
 use reference::operations::Verdict;
 use reference::order::CutOrder;
 use tracer::open::Opened;
 use tracer::seams_plain::Listed;
+use tracer::write_plain::Loose;
 
 #[repr(C)]
 pub struct OpenAnswer {
@@ -58,6 +59,22 @@ impl OrderAnswer {
     }
 }
 
+#[repr(C)]
+pub struct WriteAnswer {
+    refusal: u64,
+    length: u64,
+}
+
+impl WriteAnswer {
+    /// The answer as the writer in Rust gives it.
+    pub fn written(&self) -> Result<usize, u8> {
+        match self.refusal {
+            0 => Ok(self.length as usize),
+            number => Err(number as u8),
+        }
+    }
+}
+
 extern "C" {
     fn gethwapiko_open(job: *const u8, job_length: usize) -> OpenAnswer;
     fn gethwapiko_seams(
@@ -72,6 +89,22 @@ extern "C" {
         places: *const u8,
         places_length: usize,
     ) -> OrderAnswer;
+    fn gethwapiko_write_job(
+        n: u64,
+        bias: u8,
+        ends: *const u8,
+        ends_length: usize,
+        polynomial1: *const u8,
+        polynomial1_length: usize,
+        polynomial2: *const u8,
+        polynomial2_length: usize,
+        polynomial3: *const u8,
+        polynomial3_length: usize,
+        start: *const u8,
+        start_length: usize,
+        buffer: *mut u8,
+        buffer_length: usize,
+    ) -> WriteAnswer;
 }
 
 /// Open of the proved library.
@@ -88,6 +121,29 @@ pub fn seams(job: &[u8], buffer: &mut [u8]) -> Listed {
 /// The order of cutting of the proved library.
 pub fn cut_order(job: &[u8], list: &[u8]) -> Result<CutOrder, u8> {
     unsafe { gethwapiko_cut_order(job.as_ptr(), job.len(), list.as_ptr(), list.len()) }.read()
+}
+
+/// The writer of jobs of the proved library.
+pub fn write_job(loose: &Loose, buffer: &mut [u8]) -> WriteAnswer {
+    let Loose { n, bias, ends, polynomials: [first, second, third], start } = *loose;
+    unsafe {
+        gethwapiko_write_job(
+            n,
+            bias,
+            ends.as_ptr(),
+            ends.len(),
+            first.as_ptr(),
+            first.len(),
+            second.as_ptr(),
+            second.len(),
+            third.as_ptr(),
+            third.len(),
+            start.as_ptr(),
+            start.len(),
+            buffer.as_mut_ptr(),
+            buffer.len(),
+        )
+    }
 }
 
 #[cfg(before)]
@@ -159,4 +215,48 @@ extern "C" {
 pub fn cut_order_before(job: &[u8], list: &[u8]) -> Result<CutOrder, u8> {
     let (places, length) = (list.as_ptr(), list.len());
     unsafe { before_gethwapiko_cut_order(job.as_ptr(), job.len(), places, length) }.read()
+}
+
+#[cfg(before_write)]
+extern "C" {
+    fn before_gethwapiko_write_job(
+        n: u64,
+        bias: u8,
+        ends: *const u8,
+        ends_length: usize,
+        polynomial1: *const u8,
+        polynomial1_length: usize,
+        polynomial2: *const u8,
+        polynomial2_length: usize,
+        polynomial3: *const u8,
+        polynomial3_length: usize,
+        start: *const u8,
+        start_length: usize,
+        buffer: *mut u8,
+        buffer_length: usize,
+    ) -> WriteAnswer;
+}
+
+/// The writer of jobs of the earlier state.
+#[cfg(before_write)]
+pub fn write_job_before(loose: &Loose, buffer: &mut [u8]) -> WriteAnswer {
+    let Loose { n, bias, ends, polynomials: [first, second, third], start } = *loose;
+    unsafe {
+        before_gethwapiko_write_job(
+            n,
+            bias,
+            ends.as_ptr(),
+            ends.len(),
+            first.as_ptr(),
+            first.len(),
+            second.as_ptr(),
+            second.len(),
+            third.as_ptr(),
+            third.len(),
+            start.as_ptr(),
+            start.len(),
+            buffer.as_mut_ptr(),
+            buffer.len(),
+        )
+    }
 }

@@ -1,5 +1,5 @@
-//! Two tracers, two listers of seams, two orders of cutting and two openers in Rust for comparing
-//! times, and the jobs that are timed.
+//! Two tracers, two listers of seams, two orders of cutting, two openers and two writers of jobs in
+//! Rust for comparing times, and the jobs that are timed.
 
 pub mod careful;
 pub mod jobs;
@@ -12,11 +12,15 @@ pub mod plain;
 pub mod seam_jobs;
 pub mod seams_careful;
 pub mod seams_plain;
+pub mod write_jobs;
+pub mod write_plain;
 
 #[cfg(test)]
 mod order_tests;
 #[cfg(test)]
 mod seam_tests;
+#[cfg(test)]
+mod write_tests;
 
 #[cfg(test)]
 mod tests {

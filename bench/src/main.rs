@@ -1,6 +1,6 @@
-//! Times the proved library's Trace, list of seams, order of cutting and Open against Rust made for
-//! the purpose: all optimised, on the same jobs, within one run. With an earlier state of the library linked (`build.rs`), that is
-//! timed too, under the name `before`.
+//! Times the proved library's Trace, list of seams, order of cutting, Open and writing of jobs against
+//! Rust made for the purpose: all optimised, on the same jobs, within one run. With an earlier state of
+//! the library linked (`build.rs`), that is timed too, under the name `before`.
 //!
 //!     bench                        Trace on the jobs of `jobs.rs`
 //!     bench FILE..                 Trace on these job files
@@ -9,6 +9,7 @@
 //!                                  of document 001
 //!     bench order                  the order of cutting on the lists of `order_jobs.rs`
 //!     bench open                   Open on jobs in a row
+//!     bench writing                the writing of the jobs of `write_jobs.rs` from their bodies
 //!     bench write FOLDER           writes the jobs of `jobs.rs` to files and prints their names
 //!     bench write-long FOLDER      writes the curves of `long_curves.rs` to files and prints each
 //!                                  name once with each space
@@ -16,8 +17,8 @@
 //!     bench write-order FOLDER     writes the jobs of `order_jobs.rs` to files, with the places of each
 //!                                  list beside them, and prints the names of the jobs
 //!
-//! For a counter of instructions, one tracer, lister, order or opener (proved, plain, careful, before;
-//! for an order narrow and table instead of careful) so many times:
+//! For a counter of instructions, one tracer, lister, order, opener or writer (proved, plain, careful,
+//! before; for an order narrow and table instead of careful) so many times:
 //!
 //!     bench run TRACER FILE TIMES             prints the places of one time
 //!     bench run TRACER FILE SPACE TIMES       the same with space for so many places
@@ -25,6 +26,8 @@
 //!     bench run-order ORDER FILE TIMES        prints the places walked of one time
 //!     bench run-open OPENER N TERMS TIMES     300 jobs of dimension N with TERMS terms a body, or
 //!                                             `full`; prints the bytes of one time
+//!     bench run-writing WRITER NAME TIMES     the jobs of `write_jobs.rs` with that name; prints how
+//!                                             many are written in one time
 
 mod archives;
 mod time_linear;
@@ -32,6 +35,7 @@ mod time_open;
 mod time_order;
 mod time_seams;
 mod time_trace;
+mod time_write;
 
 use std::path::{Path, PathBuf};
 
@@ -84,6 +88,7 @@ fn main() {
         ["open"] => time_open::all(),
         ["order"] => time_order::all(),
         ["seams"] => time_seams::all(),
+        ["writing"] => time_write::all(),
         ["write", folder] => write(folder),
         ["write-long", folder] => write_long(folder),
         ["write-seams", folder] => write_seams(folder),
@@ -95,6 +100,7 @@ fn main() {
         ["run-seams", lister, file, times] => time_seams::run(lister, file, times),
         ["run-order", order, file, times] => time_order::run(order, file, times),
         ["run-open", opener, n, terms, times] => time_open::run(opener, n, terms, times),
+        ["run-writing", writer, name, times] => time_write::run(writer, name, times),
         [] => {
             time_trace::head();
             for (name, job) in jobs() {

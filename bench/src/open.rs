@@ -53,14 +53,14 @@ fn bodies(n: usize, most_terms: usize, job: &[u8]) -> Option<Bodies<'_>> {
 
 /// Whether the low and high end of an axis are within their limits, low under high.
 #[inline(always)]
-fn is_axis(ends: &[u8]) -> bool {
+pub(crate) fn is_axis(ends: &[u8]) -> bool {
     let (low, high) = (signed_16(ends), signed_16(&ends[2..]));
     -256 <= low && low < high && high <= 256
 }
 
 /// Whether each term is within its limits and rises over the one before.
 #[inline(always)]
-fn is_polynomial(n: usize, body: &[u8]) -> bool {
+pub(crate) fn is_polynomial(n: usize, body: &[u8]) -> bool {
     let mut before: Option<[u8; 4]> = None;
     for term in body.chunks_exact(8) {
         // Not byte by byte: that compiles to four stores and a load that waits for all of them.
@@ -82,7 +82,7 @@ fn is_polynomial(n: usize, body: &[u8]) -> bool {
 
 /// The same for dimension N, carefully.
 #[inline(always)]
-fn is_polynomial_in<const N: usize>(body: &[u8]) -> bool {
+pub(crate) fn is_polynomial_in<const N: usize>(body: &[u8]) -> bool {
     let mut before: Option<[u8; 4]> = None;
     for term in body.as_chunks::<8>().0 {
         let coefficient = i32::from_le_bytes(term[..4].try_into().unwrap());
@@ -103,7 +103,7 @@ fn is_polynomial_in<const N: usize>(body: &[u8]) -> bool {
 
 /// Whether the masks of a place are a chain of masks of n axes, and the side is 0 or 1.
 #[inline(always)]
-fn is_place(n: usize, body: &[u8]) -> bool {
+pub(crate) fn is_place(n: usize, body: &[u8]) -> bool {
     let (masks, side) = (&body[2 * n..3 * n - 1], body[3 * n - 1]);
     let mut before = 0;
     for &mask in masks {

@@ -1,7 +1,7 @@
 -- The answers of writing a job and the buffer at exit, by what the code has tested and laid.
 use Prim.Native.Nat.{ℕ, _+_, _<_, _≤_}
 use native.Mathlib.Omega.{arith}
-use mathlib.Core.Path.{_≡_, sym, ap, subst, _∙_}
+use mathlib.Core.Path.{_≡_, sym, ap, _∙_}
 use mathlib.Core.Bool.{true, false, not}
 use mathlib.Core.List.{List}
 use lib.ListN.{length}
@@ -12,8 +12,8 @@ use Rattle.paper.specs.Limits.{dimensionOk}
 use Rattle.paper.specs.Job.{contentsEnd, openRefusal}
 use Rattle.paper.specs.Operations.{Answer, refused, answered}
 use Rattle.paper.proofs.Refusals.{not-refused, refuse-later}
-use Rattle.assembly.specs.Assembled.{Loose, handed, bodyOf, bodiesOf, jobOf, assembled}
-use Rattle.assembly.specs.Written.{over, written, bufferWritten}
+use Rattle.assembly.specs.Assembled.{Loose, handed, bodyOf, bodiesOf, jobFrom, assembled}
+use Rattle.assembly.specs.Written.{written, bufferWritten}
 use Rattle.assembly.specs.LooseRefusal.{lengthsOk, formRefusal, looseRefusal}
 use Rattle.assembly.proofs.Lengths.{job-length, job-same, sets-over}
 use Rattle.assembly.proofs.OpensTo.{opens-to}
@@ -46,14 +46,14 @@ module _ (d : Loose) (buffer : List ℕ) where
 
   module _ (f : ℕ → List ℕ) (a : Arranged d f) (h : dimensionOk (d .n) ≡ true) where
     -- the job from the bodies by index
-    job-is : jobOf (d .n) (d .bias) f ≡ assembled d
+    job-is : jobFrom (d .n) (d .bias) f ≡ assembled d
     unfolding Arranged assembled
     job-is = job-same (d .n) (d .bias) f (bodyOf d) a
 
     pub length-is : contentsEnd (d .n) + length (bodiesOf f 0 (d .n + 1)) ≡ length (assembled d)
     length-is = sym (job-length (d .n) (d .bias) f) ∙ ap length job-is
 
-    pub job-long : length (assembled d) ≤ length buffer → length (jobOf (d .n) (d .bias) f) ≤ length buffer
+    pub job-long : length (assembled d) ≤ length buffer → length (jobFrom (d .n) (d .bias) f) ≤ length buffer
     job-long l = omega (arith, ap length job-is)
 
     form-is : looseRefusal (d .n) (bodyOf d) ≡ formRefusal (d .n) f
@@ -69,7 +69,7 @@ module _ (d : Loose) (buffer : List ℕ) where
       pub no-room : length buffer < length (assembled d) → Outcome d buffer (refused 16) buffer
       no-room l = refusal 16 (write-no-room d buffer (form-is ∙ e) l)
 
-      pub laid : (after : List ℕ) (r : ℕ) → length (assembled d) ≤ length buffer → Laid buffer 0 (jobOf (d .n) (d .bias) f) after r
+      pub laid : (after : List ℕ) (r : ℕ) → length (assembled d) ≤ length buffer → Laid buffer 0 (jobFrom (d .n) (d .bias) f) after r
           → Outcome d buffer (answered r) after
       laid after r l p =
           let w = write-room d buffer (form-is ∙ e) l in

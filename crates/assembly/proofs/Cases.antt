@@ -33,7 +33,7 @@ startA = 0 ∷ 0 ∷ 0 ∷ 0 ∷ 1 ∷ 0 ∷ []
 -- what this unfolds is all that the cases compute with
 unfoldable pub answerOf : Loose → List ℕ → Answer ℕ
 unfolding bodyOffsets caseA caseC caseC4 withBias boxA termsA startA
-    Assembled.bodyOf Assembled.entriesOf Assembled.bodiesOf Assembled.contentsOf Assembled.jobOf Assembled.assembled
+    Assembled.bodyOf Assembled.entriesOf Assembled.bodiesOf Assembled.contentsOf Assembled.jobFrom Assembled.assembled
     Written.writeRefusal Written.written Written.over Written.overUnless Written.bufferWritten
 answerOf d buffer = written d buffer
 

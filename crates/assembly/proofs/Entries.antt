@@ -1,54 +1,43 @@
 -- The entries of the contents, read from a list in which they stand: an entry reads as the low 16 bits of the body's offset and of its length. So the
 -- test of the entries passes exactly if each body has a length of its kind.
-use Prim.Native.Nat.{ℕ, zero, suc, _+_, _*_, _/_, _%_, _≤_, _<_}
+use Prim.Native.Nat.{ℕ, zero, suc, _+_, _*_, _%_, _≤_, _<_}
 use native.Mathlib.Omega.{arith}
-use mathlib.Core.Path.{_≡_, refl, sym, ap, subst, _∙_}
+use mathlib.Core.Path.{_≡_, refl, ap, subst, _∙_}
 use mathlib.Core.Bool.{Bool, true, false}
 use mathlib.Core.List.{List, _++_}
 use lib.IntN.{pos}
-use lib.ListN.{length, take, drop, getD, length-append}
-use lib.Seq.{getD-drop, drop-drop, drop-at, take-at}
+use lib.ListN.{length, take, drop, length-append}
+use lib.Seq.{take-at}
 use lib.Dec.{eqb}
 use borrow.Author.Tests.{eqb-true, eqb-false, eq-eqb}
 use Rattle.exact.proofs.AndTests.{and-left, and-right, and-true}
-use Rattle.paper.specs.Bytes.{byte, word, wordOf, wordBytes}
+use Rattle.paper.specs.Bytes.{wordOf, wordBytes}
 use Rattle.paper.specs.Job.{entryOffset, entryLength, lengthOk, entriesOk, allFrom, body}
-use Rattle.paper.proofs.WordBytes.{word-together}
+use Rattle.paper.proofs.Encode.{drop-on, read-bits}
+use Rattle.paper.proofs.Tests.{all-at}
 use Rattle.paper.proofs.TermLimit.{term-limit-most}
 use Rattle.paper.proofs.Bodies.{entries-first, entries-none, box-kind, start-kind, polynomial-kind}
 use Rattle.assembly.specs.Assembled.{entriesOf, bodiesOf}
+use Rattle.assembly.specs.LooseRefusal.{lengthsOk}
 
 -- ---- one entry
-
--- where the two bytes of a number stand, its low 16 bits are read
-read-word : (s : List ℕ) (k x : ℕ) (rest : List ℕ) → drop k s ≡ wordBytes (pos x) ++ rest → word s k ≡ x % 65536
-unfolding word byte wordBytes wordOf
-read-word s k x rest e =
-    let here : k + 0 ≡ k = omega arith in
-    let low : getD s k 0 ≡ x % 65536 % 256 = ap (λ i. getD s i 0) (sym here) ∙ sym (getD-drop k s 0 0) ∙ ap (λ l. getD l 0 0) e in
-    let high : getD s (k + 1) 0 ≡ x % 65536 / 256 = sym (getD-drop k s 1 0) ∙ ap (λ l. getD l 1 0) e in
-    omega (arith, word-together (x % 65536), low, high)
-
--- the list behind a part
-behind : (s : List ℕ) (k i j : ℕ) (part rest : List ℕ) → k + i ≡ j → length part ≡ i → drop k s ≡ part ++ rest → drop j s ≡ rest
-behind s k i j part rest e l h = ap (λ m. drop m s) (sym e) ∙ sym (drop-drop i k s) ∙ ap (drop i) h ∙ drop-at part rest i l
 
 -- entries that stand in a list from entry k on: what entry k reads as, and the entries behind it
 module _ (s : List ℕ) (f : ℕ → List ℕ) (k m at : ℕ) (rest : List ℕ) (stand : drop (4 * k + 4) s ≡ entriesOf f k (suc m) at ++ rest) where
   offset-read : entryOffset s k ≡ at % 65536
-  unfolding entryOffset entriesOf wordBytes
-  offset-read = read-word s (4 * k + 4) at _ stand
+  unfolding entryOffset entriesOf wordBytes wordOf
+  offset-read = read-bits s (4 * k + 4) (pos at) _ stand
 
   length-read : entryLength s k ≡ length (f k) % 65536
-  unfolding entryLength entriesOf wordBytes
+  unfolding entryLength entriesOf wordBytes wordOf
   length-read =
-      read-word s (4 * k + 6) (length (f k)) (entriesOf f (k + 1) m (at + length (f k)) ++ rest)
-      (behind s (4 * k + 4) 2 (4 * k + 6) (wordBytes (pos at)) _ (omega arith) refl stand)
+      read-bits s (4 * k + 6) (pos (length (f k))) (entriesOf f (k + 1) m (at + length (f k)) ++ rest)
+      (drop-on s (4 * k + 4) 2 (4 * k + 6) (wordBytes (pos at)) _ (omega arith) refl stand)
 
   entries-next : drop (4 * (k + 1) + 4) s ≡ entriesOf f (k + 1) m (at + length (f k)) ++ rest
   unfolding entriesOf wordBytes
   entries-next =
-      behind s (4 * k + 4) 4 (4 * (k + 1) + 4) (wordBytes (pos at) ++ wordBytes (pos (length (f k)))) _ (omega arith) refl stand
+      drop-on s (4 * k + 4) 4 (4 * (k + 1) + 4) (wordBytes (pos at) ++ wordBytes (pos (length (f k)))) _ (omega arith) refl stand
 
 -- ---- the lengths of bodies
 
@@ -68,6 +57,11 @@ kind-small n k l u i h = go (eqb k 0) refl (eqb k n) refl
 -- body k of n + 1 has a length of its kind
 abbrev pub kindOk : ℕ → (ℕ → List ℕ) → ℕ → Bool
 kindOk n f k = lengthOk n k (length (f k))
+
+-- each, where all have
+pub kind-at : (n : ℕ) (f : ℕ → List ℕ) → lengthsOk n f ≡ true → (k : ℕ) → k ≤ n → kindOk n f k ≡ true
+unfolding lengthsOk
+kind-at n f h k l = all-at (kindOk n f) 0 (n + 1) k h (omega arith) (omega arith)
 
 -- ---- the test of the entries
 
@@ -150,7 +144,7 @@ unfolding bodiesOf
 bodies-read n s f k zero at rest stand b t j l u = absurd (omega arith)
 bodies-read n s f k (suc m) at rest stand b t j l u =
     go (bodies-read n s f (k + 1) m (at + length (f k)) rest (entries-next s f k m at rest stand)
-    (behind s at (length (f k)) (at + length (f k)) (f k) (bodiesOf f (k + 1) m) refl refl b) (fits-next t) j) (eqb k j) refl
+    (drop-on s at (length (f k)) (at + length (f k)) (f k) (bodiesOf f (k + 1) m) refl refl b) (fits-next t) j) (eqb k j) refl
   where
     go : (k + 1 ≤ j → j < k + 1 + m → body s j ≡ f j) → (a : Bool) → eqb k j ≡ a → body s j ≡ f j
     go later true e = subst (λ i. body s i ≡ f i) (eqb-true k j e) (body-here t s rest stand b)

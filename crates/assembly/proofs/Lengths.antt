@@ -9,7 +9,7 @@ use lib.ListN.{length, take, drop, length-append, length-drop}
 use lib.Seq.{take-at, drop-at, sets, sets-eq}
 use Rattle.paper.specs.Bytes.{wordBytes}
 use Rattle.paper.specs.Job.{contentsEnd}
-use Rattle.assembly.specs.Assembled.{entriesOf, bodiesOf, contentsOf, jobOf}
+use Rattle.assembly.specs.Assembled.{entriesOf, bodiesOf, contentsOf, jobFrom}
 use Rattle.assembly.specs.Written.{over}
 
 -- ---- lengths
@@ -24,8 +24,8 @@ pub contents-length : (n bias : ℕ) (f : ℕ → List ℕ) → length (contents
 unfolding contentsOf contentsEnd
 contents-length n bias f = omega (arith, entries-length f 0 (n + 1) (4 * n + 8))
 
-pub job-length : (n bias : ℕ) (f : ℕ → List ℕ) → length (jobOf n bias f) ≡ contentsEnd n + length (bodiesOf f 0 (n + 1))
-unfolding jobOf
+pub job-length : (n bias : ℕ) (f : ℕ → List ℕ) → length (jobFrom n bias f) ≡ contentsEnd n + length (bodiesOf f 0 (n + 1))
+unfolding jobFrom
 job-length n bias f =
     length-append (contentsOf n bias f) (bodiesOf f 0 (n + 1)) ∙ ap (λ l. l + length (bodiesOf f 0 (n + 1))) (contents-length n bias f)
 
@@ -49,8 +49,8 @@ bodies-same f g k (suc m) h =
     ap₂ _++_ (h k (omega arith) (omega arith)) (bodies-same f g (k + 1) m (λ j l u. h j (omega arith) (omega arith)))
 
 -- bodies 0 to n alone
-pub job-same : (n bias : ℕ) (f g : ℕ → List ℕ) → ((k : ℕ) → k ≤ n → f k ≡ g k) → jobOf n bias f ≡ jobOf n bias g
-unfolding jobOf contentsOf
+pub job-same : (n bias : ℕ) (f g : ℕ → List ℕ) → ((k : ℕ) → k ≤ n → f k ≡ g k) → jobFrom n bias f ≡ jobFrom n bias g
+unfolding jobFrom contentsOf
 job-same n bias f g h =
     rw (
       entries-same f g 0 (n + 1) (contentsEnd n) (λ j l u. h j (omega arith)),

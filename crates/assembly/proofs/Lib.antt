@@ -7,4 +7,5 @@ pub mod Unread
 pub mod Short
 pub mod WriteAnswers
 pub mod WriteDemand
+pub mod BuiltJobs
 pub mod Cases

@@ -5,12 +5,11 @@ use mathlib.Core.Path.{_≡_, refl, sym, ap, ap₂, _∙_}
 use mathlib.Core.Bool.{Bool, true, false}
 use mathlib.Core.List.{List, [], _∷_, _++_, map, append-assoc}
 use lib.IntN.{pos}
-use lib.ListN.{length, take, drop, getD, length-append, take-append-drop, drop-of-length-le, List·getD-append}
-use lib.Seq.{drop-cons, drop-drop, take-at}
-use lib.Dec.{leb, eqb}
+use lib.ListN.{length, take, drop, length-append, take-append-drop, drop-of-length-le, List·getD-append}
+use lib.Seq.{drop-drop, take-at}
+use lib.Dec.{eqb}
 use borrow.Author.Tests.{eqb-true, eqb-false, le-ltb, eq-eqb, ne-eqb}
 use Rattle.exact.specs.Crossed.{countFrom}
-use Rattle.exact.proofs.AndTests.{and-right}
 use Rattle.exact.proofs.CountFrom.{length-map-countFrom, getD-map-countFrom}
 use Rattle.curves.specs.Grid.{Place}
 use Rattle.paper.specs.Bytes.{byte, word, wordOf, wordBytes}
@@ -19,8 +18,9 @@ use Rattle.paper.specs.Job.{dimension, entryOffset, entryLength, contentsEnd, e
 use Rattle.paper.specs.Operations.{answered}
 use Rattle.paper.proofs.Refusals.{first-passes, refuse-later, unless-answered}
 use Rattle.paper.proofs.Opens.{Opens, opens, opens-range}
-use Rattle.paper.proofs.Bodies.{entries-first, entries-none, contents-long, contents-body-length, body-length, last-end, start-length}
-use Rattle.assembly.specs.Assembled.{Loose, bodyOf, entriesOf, bodiesOf, contentsOf, jobOf, assembled}
+use Rattle.paper.proofs.Bodies.{contents-entries, entries-first, entries-none, contents-long, contents-body-length, body-length, last-end, start-length}
+use Rattle.paper.proofs.Encode.{first-two}
+use Rattle.assembly.specs.Assembled.{Loose, bodyOf, entriesOf, bodiesOf, contentsOf, jobFrom, assembled}
 use Rattle.assembly.specs.Written.{writeRefusal, written, over, overUnless, bufferWritten}
 use Rattle.assembly.specs.Own.{ownBodies, otherStart}
 use Rattle.assembly.proofs.Lengths.{entries-by-length, bodies-same, job-same, bodies-snoc}
@@ -38,12 +38,9 @@ two-bytes x y p q =
 
 -- where a number is read its bytes stand
 word-stands : (s : List ℕ) (k j : ℕ) → ((i : ℕ) → byte s i < 256) → k + 2 ≡ j → j ≤ length s → drop k s ≡ wordBytes (pos (word s k)) ++ drop j s
-unfolding byte word
+unfolding word
 word-stands s k j h e l =
-    let next : suc k ≡ k + 1 = omega arith in
-    let behind : suc (k + 1) ≡ j = omega arith in
-    rw (drop-cons s k 0 (omega arith), drop-cons s (suc k) 0 (omega arith), next, behind)
-    (ap (λ b. b ++ drop j s) (sym (two-bytes (getD s k 0) (getD s (k + 1) 0) (h k) (h (k + 1)))))
+    first-two s k j e l ∙ ap (λ b. b ++ drop j s) (sym (two-bytes (byte s k) (byte s (k + 1)) (h k) (h (k + 1))))
 
 -- ---- contents that are right
 
@@ -92,12 +89,12 @@ first-four (a ∷ b ∷ c ∷ []) h = absurd (omega arith)
 
 module _ {s : List ℕ} (o : Opens s) (h : (i : ℕ) → byte s i < 256) where
   -- it is the job whose bodies are its own
-  pub job-again : jobOf (dimension s) (Job.bias s) (body s) ≡ s
-  unfolding jobOf contentsOf contentsOk dimension Job.bias
+  pub job-again : jobFrom (dimension s) (Job.bias s) (body s) ≡ s
+  unfolding jobFrom contentsOf contentsOk dimension Job.bias
   job-again =
       let n : ℕ = dimension s in
       let entries : entriesOk n s (n + 1) 0 (contentsEnd n) ≡ true =
-      and-right (leb (contentsEnd n) (length s)) (entriesOk n s (n + 1) 0 (contentsEnd n)) (o .contents) in
+      contents-entries n s (o .contents) in
       rw (bodies-again n s 0 (n + 1) (contentsEnd n) entries, entries-again n s (o .contents) h 0 (n + 1) (contentsEnd n) (omega arith) entries)
       (ap₂ (λ a c. a ∷ dimension s ∷ c ∷ Job.bias s ∷ drop 4 s) (sym (o .mark)) (sym (o .entries)) ∙ first-four s (o .long))
 
@@ -144,8 +141,8 @@ module _ (s : List ℕ) (more : List (List ℕ)) (o : openRefusal s ≡ 0) (h : 
 abbrev beforeStart : ℕ → ℕ → (ℕ → List ℕ) → List ℕ
 beforeStart n bias f = contentsOf n bias f ++ bodiesOf f 0 n
 
-job-last : (n bias : ℕ) (f : ℕ → List ℕ) → jobOf n bias f ≡ beforeStart n bias f ++ f n
-unfolding jobOf
+job-last : (n bias : ℕ) (f : ℕ → List ℕ) → jobFrom n bias f ≡ beforeStart n bias f ++ f n
+unfolding jobFrom
 job-last n bias f =
     let more : n + 1 ≡ suc n = omega arith in
     let all : 0 + n ≡ n = omega arith in

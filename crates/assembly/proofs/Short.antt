@@ -7,13 +7,13 @@ use mathlib.Core.List.{List, _++_}
 use lib.ListN.{length, length-append}
 use Rattle.paper.specs.Limits.{dimensionOk}
 use Rattle.paper.specs.Job.{contentsEnd}
-use Rattle.paper.proofs.Tests.{all-at, dimension-range}
+use Rattle.paper.proofs.Tests.{dimension-range}
 use Rattle.paper.proofs.TermLimit.{term-limit-most}
 use Rattle.paper.proofs.Bodies.{box-kind, start-kind, polynomial-kind}
-use Rattle.assembly.specs.Assembled.{bodiesOf, jobOf}
+use Rattle.assembly.specs.Assembled.{bodiesOf, jobFrom}
 use Rattle.assembly.specs.LooseRefusal.{lengthsOk}
 use Rattle.assembly.proofs.Lengths.{job-length, bodies-snoc}
-use Rattle.assembly.proofs.Entries.{kindOk}
+use Rattle.assembly.proofs.Entries.{kind-at}
 
 bodies-most : (f : ℕ → List ℕ) (k m : ℕ) → ((j : ℕ) → k ≤ j → j < k + m → length (f j) ≤ 560) → length (bodiesOf f k m) ≤ 560 * m
 unfolding bodiesOf
@@ -34,16 +34,12 @@ three-parts n f p =
     ∙ omega (arith, length-append (f 0) (polynomials ++ f n), length-append polynomials (f n))
 
 module _ (n bias : ℕ) (f : ℕ → List ℕ) (d : dimensionOk n ≡ true) (t : lengthsOk n f ≡ true) where
-  kind : (k : ℕ) → k ≤ n → kindOk n f k ≡ true
-  unfolding lengthsOk
-  kind k l = all-at (kindOk n f) 0 (n + 1) k t (omega arith) (omega arith)
-
   polynomials-short : length (bodiesOf f 1 (n - 1)) ≤ 560 * (n - 1)
   polynomials-short =
       bodies-most f 1 (n - 1)
-      (λ k l u. omega (arith, polynomial-kind n k (length (f k)) l (omega arith) (kind k (omega arith)) .high, term-limit-most n))
+      (λ k l u. omega (arith, polynomial-kind n k (length (f k)) l (omega arith) (kind-at n f t k (omega arith)) .high, term-limit-most n))
 
-  pub job-short : length (jobOf n bias f) ≤ 1732
+  pub job-short : length (jobFrom n bias f) ≤ 1732
   unfolding contentsEnd
   job-short =
       let r = dimension-range n d in
@@ -53,7 +49,7 @@ module _ (n bias : ℕ) (f : ℕ → List ℕ) (d : dimensionOk n ≡ true) (t :
         r .high,
         job-length n bias f,
         three-parts n f some,
-        box-kind n (length (f 0)) (kind 0 (omega arith)),
+        box-kind n (length (f 0)) (kind-at n f t 0 (omega arith)),
         polynomials-short,
-        start-kind n (length (f n)) some (kind n (omega arith)),
+        start-kind n (length (f n)) some (kind-at n f t n (omega arith)),
       )

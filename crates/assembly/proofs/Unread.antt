@@ -7,7 +7,7 @@ use mathlib.Core.List.{List, []}
 use lib.ListN.{getD}
 use lib.Dec.{eqb}
 use borrow.Author.Tests.{eqb-false}
-use Rattle.assembly.specs.Assembled.{Loose, bodyOf, jobOf, assembled}
+use Rattle.assembly.specs.Assembled.{Loose, bodyOf, jobFrom, assembled}
 use Rattle.assembly.specs.Written.{writeRefusal, written, bufferWritten}
 use Rattle.assembly.proofs.Lengths.{job-same}
 
@@ -25,7 +25,7 @@ module _ (d e : Loose) (n-same : d .n ≡ e .n) (bias-same : d .bias ≡ e .bias
 
   same-job : assembled d ≡ assembled e
   unfolding assembled
-  same-job = job-same (d .n) (d .bias) (bodyOf d) (bodyOf e) bodies-read ∙ ap₂ (λ n b. jobOf n b (bodyOf e)) n-same bias-same
+  same-job = job-same (d .n) (d .bias) (bodyOf d) (bodyOf e) bodies-read ∙ ap₂ (λ n b. jobFrom n b (bodyOf e)) n-same bias-same
 
   pub unread : (buffer : List ℕ) → (written d buffer ≡ written e buffer) × (bufferWritten d buffer ≡ bufferWritten e buffer)
   unfolding writeRefusal written bufferWritten

@@ -9,9 +9,9 @@ use lib.Dec.{ltb, lit<}
 use borrow.Author.Tests.{ltb-false, lt-ltb, le-ltb, not-false}
 use Rattle.paper.specs.Limits.{dimensionOk}
 use Rattle.paper.specs.Job.{refuseIf}
-use Rattle.paper.specs.Operations.{refused, answered, unless}
+use Rattle.paper.specs.Operations.{refused, answered}
 use Rattle.paper.proofs.Refusals.{not-refused, refuse-here, refuse-later, neither-refused, first-refuses, first-passes}
-use Rattle.paper.proofs.Refusals.{unless-refused, unless-answered, answered-inv}
+use Rattle.paper.proofs.Refusals.{unless-refused, unless-answered, answered-inv, RefusedBy, refused-inv}
 use Rattle.assembly.specs.Assembled.{Loose, bodyOf, assembled}
 use Rattle.assembly.specs.Written.{writeRefusal, written, over, overUnless, bufferWritten}
 use Rattle.assembly.specs.LooseRefusal.{lengthsOk, formRefusal, looseRefusal}
@@ -26,16 +26,6 @@ pub data WriteNumber (k : ℕ) : Type 0 where
   by-term : k ≡ 7 → WriteNumber k
   by-start : k ≡ 8 → WriteNumber k
   by-buffer : k ≡ 16 → WriteNumber k
-
--- a refusal comes from its own number
-record Refused (k j : ℕ) : Type 0 where
-  some : 0 < k
-  is : k ≡ j
-
-refused-inv : {A : Type 0} (k : ℕ) (a : A) (j : ℕ) → unless k a ≡ refused j → Refused k j
-unfolding unless
-refused-inv zero a j h = let z : _≡_ {A = ℕ} 0 1 = cc in absurd (omega arith)
-refused-inv (suc k) a j h = record { some = omega arith; is = cc }
 
 -- a test refuses, or the rest does
 either : {P : Type 0} (t : Bool) (k rest r : ℕ) → refuseIf t k rest ≡ r → (r ≡ k → P) → (rest ≡ r → P) → P
@@ -117,9 +107,9 @@ module _ (d : Loose) (buffer : List ℕ) where
 
   -- ---- a refusal
 
-  refusal-is : (k : ℕ) → written d buffer ≡ refused k → Refused (writeRefusal d buffer) k
+  refusal-is : (k : ℕ) → written d buffer ≡ refused k → RefusedBy (writeRefusal d buffer) k
   unfolding written
-  refusal-is k h = refused-inv (writeRefusal d buffer) (length (assembled d)) k h
+  refusal-is k h = refused-inv (writeRefusal d buffer) (length (assembled d)) h
 
   -- nothing is written
   pub refused-nothing : (k : ℕ) → written d buffer ≡ refused k → bufferWritten d buffer ≡ buffer
@@ -130,7 +120,7 @@ module _ (d : Loose) (buffer : List ℕ) where
   pub refusal-numbers : (k : ℕ) → written d buffer ≡ refused k → WriteNumber k
   refusal-numbers k h = go (looseRefusal (d .n) (bodyOf d)) refl
     where
-      r : Refused (writeRefusal d buffer) k
+      r : RefusedBy (writeRefusal d buffer) k
       r = refusal-is k h
 
       go : (l : ℕ) → looseRefusal (d .n) (bodyOf d) ≡ l → WriteNumber k

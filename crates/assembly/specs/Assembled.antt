@@ -42,9 +42,9 @@ unfoldable pub contentsOf : ℕ → ℕ → (ℕ → List ℕ) → List ℕ
 contentsOf n bias f = (1 ∷ n ∷ (n + 1) ∷ bias ∷ []) ++ entriesOf f 0 (n + 1) (contentsEnd n)
 
 -- contents first, bodies behind them
-unfoldable pub jobOf : ℕ → ℕ → (ℕ → List ℕ) → List ℕ
-jobOf n bias f = contentsOf n bias f ++ bodiesOf f 0 (n + 1)
+unfoldable pub jobFrom : ℕ → ℕ → (ℕ → List ℕ) → List ℕ
+jobFrom n bias f = contentsOf n bias f ++ bodiesOf f 0 (n + 1)
 
 -- the job from loose bodies
 unfoldable pub assembled : Loose → List ℕ
-assembled d = jobOf (d .n) (d .bias) (bodyOf d)
+assembled d = jobFrom (d .n) (d .bias) (bodyOf d)

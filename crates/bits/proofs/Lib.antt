@@ -2,3 +2,4 @@
 pub mod EachDimension
 pub mod SignedBits
 pub mod MaskBits
+pub mod Sets

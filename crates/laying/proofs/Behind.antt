@@ -1,5 +1,5 @@
 -- Parts laid one behind another are laid as one.
-use Prim.Native.Nat.{ℕ, suc, zero, _+_, _*_, _-_, _≤_, _<_}
+use Prim.Native.Nat.{ℕ, suc, zero, _+_, _-_, _≤_, _<_}
 use native.Mathlib.Omega.{arith}
 use native.Mathlib.Numerals.{unary-clauses}
 use mathlib.Core.Path.{_≡_, refl, sym, ap, subst, _∙_}
@@ -8,10 +8,10 @@ use lib.IntN.{pos}
 use lib.ListN.{length, set, length-append}
 use lib.Seq.{sets, length-sets}
 use Rattle.paper.specs.Bytes.{wordBytes}
+use Rattle.bits.proofs.Sets.{sets-append}
 use Rattle.assembly.specs.Assembled.{entriesOf, bodiesOf}
 use Rattle.assembly.proofs.Lengths.{bodies-snoc, entries-snoc}
 use Rattle.laying.specs.Laid.{Laid}
-use Rattle.laying.proofs.Sets.{sets-append}
 
 pub laid-none : (b : List ℕ) (at : ℕ) → Laid b at [] b at
 laid-none b at = record { position = omega arith; buffer = refl }

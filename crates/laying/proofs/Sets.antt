@@ -1,18 +1,13 @@
 -- Bytes laid in a buffer one part behind another.
-use Prim.Native.Nat.{ℕ, suc, _+_, _*_, _%_, _/_, _<_, _≤_}
+use Prim.Native.Nat.{ℕ, suc, _+_, _*_, _%_, _/_, _<_}
 use native.Mathlib.Omega.{arith}
-use native.Mathlib.Nat.{add-zero}
-use mathlib.Core.Path.{_≡_, refl, sym, ap, _∙_}
+use mathlib.Core.Path.{_≡_, sym, ap, _∙_}
 use mathlib.Core.List.{List, [], _∷_, _++_}
 use lib.IntN.{pos}
 use lib.ListN.{length, take, getD, set}
-use lib.Seq.{sets, take-suc, take-length, length-take-le}
+use lib.Seq.{sets, take-suc, length-take-le}
 use Rattle.paper.specs.Bytes.{wordOf, wordBytes}
-
-pub sets-append : (l : List ℕ) (i : ℕ) (us vs : List ℕ) → sets l i (us ++ vs) ≡ sets (sets l i us) (i + length us) vs
-sets-append l i [] vs = ap (λ k. sets l k vs) (sym (add-zero i))
-sets-append l i (u ∷ us) vs =
-    sets-append (set l i u) (suc i) us vs ∙ ap (λ k. sets (sets (set l i u) (suc i) us) k vs) (omega arith)
+use Rattle.bits.proofs.Sets.{sets-append}
 
 -- one byte more of a list
 pub sets-next : (l : List ℕ) (at : ℕ) (s : List ℕ) (i : ℕ) → i < length s

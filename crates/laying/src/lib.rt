@@ -6,7 +6,7 @@ ghost use Prim.Native.Nat.{_+_, _*_, _≤_};
 ghost use lib.ListN.{length};
 ghost use Rattle.paper.specs.Bytes.{wordBytes};
 ghost use Rattle.paper.specs.Job.{contentsEnd};
-ghost use Rattle.assembly.specs.Assembled.{entriesOf, bodiesOf, contentsOf, jobOf};
+ghost use Rattle.assembly.specs.Assembled.{entriesOf, bodiesOf, contentsOf, jobFrom};
 ghost use Rattle.laying.specs.Laid.{bodyAt, Laid};
 
 // The low 16 bits of a number, the low byte first.
@@ -39,7 +39,7 @@ fn lay_entries(buffer: &mut [u8], at: usize, n: usize, bodies: [&[u8]; 5]) -> us
 
 // The contents of a job for which there is room.
 pub fn lay_contents(buffer: &mut [u8], at: usize, n: usize, bias: u8, bodies: [&[u8]; 5]) -> usize
-    requires { ⌜ (n ≤ 4) × (at + length (jobOf n bias (bodyAt bodies)) ≤ length (now buffer)) ⌝ }
+    requires { ⌜ (n ≤ 4) × (at + length (jobFrom n bias (bodyAt bodies)) ≤ length (now buffer)) ⌝ }
     ensures { λ r. ⌜ Laid (now (buffer .entry)) at (contentsOf n bias (bodyAt (bodies .entry))) (now (buffer .exit)) r ⌝ }
 {
     buffer[at] = 1;

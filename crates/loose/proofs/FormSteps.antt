@@ -1,27 +1,23 @@
 -- The lengths of loose bodies by kind, and their refusals 5 to 8, each by the first test that failed.
-use Prim.Native.Nat.{ℕ, _+_, _*_, _-_, _≤_, _<_}
+use Prim.Native.Nat.{ℕ, _*_, _-_, _<_}
 use native.Mathlib.Omega.{arith}
 use mathlib.Core.Path.{_≡_}
 use mathlib.Core.Bool.{true, false}
 use mathlib.Core.List.{List}
 use lib.ListN.{length}
 use Rattle.curves.specs.Grid.{placeOk}
-use Rattle.paper.specs.Job.{lengthOk, boxOk, allFrom, polynomialOk, decodePlace, refuseIf}
-use Rattle.paper.proofs.Tests.{all-at}
+use Rattle.paper.specs.Job.{boxOk, allFrom, polynomialOk, decodePlace, refuseIf}
 use Rattle.paper.proofs.Bodies.{box-kind, start-kind}
 use Rattle.assembly.specs.LooseRefusal.{lengthsOk, formRefusal}
+use Rattle.assembly.proofs.Entries.{kind-at}
 
 module _ (n : ℕ) (f : ℕ → List ℕ) where
   -- a body of the right length has the length of its kind
-  pub length-at : lengthsOk n f ≡ true → (k : ℕ) → k ≤ n → lengthOk n k (length (f k)) ≡ true
-  unfolding lengthsOk
-  length-at h k l = all-at (λ j. lengthOk n j (length (f j))) 0 (n + 1) k h (omega arith) (omega arith)
-
   pub box-long : lengthsOk n f ≡ true → length (f 0) ≡ 4 * n
-  box-long h = box-kind n (length (f 0)) (length-at h 0 (omega arith))
+  box-long h = box-kind n (length (f 0)) (kind-at n f h 0 (omega arith))
 
   pub start-long : 0 < n → lengthsOk n f ≡ true → length (f n) ≡ 3 * n
-  start-long p h = start-kind n (length (f n)) p (length-at h n (omega arith))
+  start-long p h = start-kind n (length (f n)) p (kind-at n f h n (omega arith))
 
   pub refuse-lengths : lengthsOk n f ≡ false → 5 ≡ formRefusal n f
   unfolding formRefusal refuseIf

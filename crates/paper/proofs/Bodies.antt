@@ -78,7 +78,7 @@ entries-behind n s (suc m) k at j h l u =
 
 -- ---- the bodies of contents that are right
 
-contents-entries : (n : ℕ) (s : List ℕ) → contentsOk n s ≡ true → entriesOk n s (n + 1) 0 (contentsEnd n) ≡ true
+pub contents-entries : (n : ℕ) (s : List ℕ) → contentsOk n s ≡ true → entriesOk n s (n + 1) 0 (contentsEnd n) ≡ true
 unfolding contentsOk
 contents-entries n s h = and-right (leb (contentsEnd n) (length s)) (entriesOk n s (n + 1) 0 (contentsEnd n)) h
 

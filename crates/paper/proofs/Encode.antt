@@ -47,7 +47,8 @@ byte-behind : (b : List ℕ) (k i j : ℕ) → k + i ≡ j → byte b j ≡ getD
 unfolding byte
 byte-behind b k i j e = ap (λ m. getD b m 0) (sym e) ∙ sym (getD-drop k b i 0)
 
-drop-on : (b : List ℕ) (k i j : ℕ) (front rest : List ℕ) → k + i ≡ j → length front ≡ i → drop k b ≡ front ++ rest → drop j b ≡ rest
+-- the list behind a part of it
+pub drop-on : (b : List ℕ) (k i j : ℕ) (front rest : List ℕ) → k + i ≡ j → length front ≡ i → drop k b ≡ front ++ rest → drop j b ≡ rest
 drop-on b k i j front rest e l h =
     ap (λ m. drop m b) (sym e) ∙ (sym (drop-drop i k b) ∙ (ap (drop i) h ∙ drop-at front rest i l))
 
@@ -55,14 +56,18 @@ drop-on b k i j front rest e l h =
 read-byte : (b : List ℕ) (k x : ℕ) (rest : List ℕ) → drop k b ≡ x ∷ rest → byte b k ≡ x
 read-byte b k x rest e = byte-behind b k 0 k (omega arith) ∙ ap (λ l. getD l 0 0) e
 
--- where the two bytes of a short number stand, it is read
-read-word : (b : List ℕ) (k : ℕ) (x : ℤ) (rest : List ℕ) → short x ≡ true → drop k b ≡ wordBytes x ++ rest → signedWord b k ≡ x
-unfolding signedWord word wordBytes
-read-word b k x rest h e =
+-- where the two bytes of a number stand, its 16 bits are read
+pub read-bits : (b : List ℕ) (k : ℕ) (x : ℤ) (rest : List ℕ) → drop k b ≡ wordBytes x ++ rest → word b k ≡ wordOf x
+unfolding word wordBytes
+read-bits b k x rest e =
     let low : byte b k ≡ wordOf x % 256 = byte-behind b k 0 k (omega arith) ∙ ap (λ l. getD l 0 0) e in
     let high : byte b (k + 1) ≡ wordOf x / 256 = byte-behind b k 1 (k + 1) (omega arith) ∙ ap (λ l. getD l 1 0) e in
-    let whole : byte b k + 256 * byte b (k + 1) ≡ wordOf x = omega (arith, word-together (wordOf x)) in
-    ap (signed 32768) whole ∙ signed-wordOf x h
+    omega (arith, word-together (wordOf x))
+
+-- where those of a short number stand, it is read
+read-word : (b : List ℕ) (k : ℕ) (x : ℤ) (rest : List ℕ) → short x ≡ true → drop k b ≡ wordBytes x ++ rest → signedWord b k ≡ x
+unfolding signedWord
+read-word b k x rest h e = ap (signed 32768) (read-bits b k x rest e) ∙ signed-wordOf x h
 
 -- where the bytes of a vertex stand, its coordinates are read
 read-vertex : (b : List ℕ) (k : ℕ) (v : Vertex) (rest : List ℕ) → every short v ≡ true → drop (2 * k) b ≡ vertexBytes v ++ rest
@@ -106,7 +111,8 @@ encode-injective n p q hp wp hq wq e = sym (decode-encode n p hp wp) ∙ (ap (de
 
 -- ---- the bytes of what was read
 
-first-two : (b : List ℕ) (k j : ℕ) → k + 2 ≡ j → j ≤ length b → drop k b ≡ byte b k ∷ byte b (k + 1) ∷ drop j b
+-- two bytes that stand in a list, and what stands behind them
+pub first-two : (b : List ℕ) (k j : ℕ) → k + 2 ≡ j → j ≤ length b → drop k b ≡ byte b k ∷ byte b (k + 1) ∷ drop j b
 unfolding byte
 first-two b k j e l =
     let next : suc k ≡ k + 1 = omega arith in

@@ -1,6 +1,6 @@
--- What a job has if Open does not refuse it: the eight tests, each as a fact.
-use mathlib.Core.Path.{_≡_}
-use mathlib.Core.Bool.{true}
+-- What a job has if Open does not refuse it: the eight tests, each as a fact; and its last three tests, of bodies by index.
+use mathlib.Core.Path.{_≡_, ap}
+use mathlib.Core.Bool.{true, not}
 use mathlib.Core.List.{List}
 use Prim.Native.Nat.{ℕ, _+_, _-_, _≤_, _<_}
 use native.Mathlib.Omega.{arith}
@@ -10,9 +10,25 @@ use borrow.Author.Tests.{ltb-false, eqb-true, not-false}
 use Rattle.curves.specs.Grid.{placeOk}
 use Rattle.paper.specs.Bytes.{byte}
 use Rattle.paper.specs.Limits.{dimensionOk}
-use Rattle.paper.specs.Job.{dimension, contentsOk, body, boxOk, polynomialOk, decodePlace, openRefusal}
-use Rattle.paper.proofs.Tests.{all-at, DimensionRange, dimension-range}
+use Rattle.paper.specs.Job.{dimension, contentsOk, body, boxOk, allFrom, polynomialOk, decodePlace, refuseIf, openRefusal}
+use Rattle.paper.proofs.Tests.{all-at, all-same, DimensionRange, dimension-range}
 use Rattle.paper.proofs.Refusals.{not-refused}
+
+-- Open's tests behind that of the contents, 6 to 8: box, terms and start, of bodies by index
+abbrev pub behindContents : ℕ → (ℕ → List ℕ) → ℕ
+behindContents n f =
+    refuseIf (not (boxOk n (f 0))) 6
+    (refuseIf (not (allFrom (λ k. polynomialOk n (f k)) 1 (n - 1))) 7
+    (refuseIf (not (placeOk n (decodePlace n (f n)))) 8 0))
+
+-- they look at bodies 0 to n
+pub behind-same : (n : ℕ) (f g : ℕ → List ℕ) → ((k : ℕ) → k ≤ n → f k ≡ g k) → behindContents n f ≡ behindContents n g
+behind-same n f g h =
+    rw (
+      h 0 (omega arith),
+      all-same (λ k. polynomialOk n (f k)) (λ k. polynomialOk n (g k)) 1 (n - 1) (λ k l u. ap (polynomialOk n) (h k (omega arith))),
+      h n (omega arith),
+    )
 
 pub record Opens (s : List ℕ) : Type 0 where
   pub long : 4 ≤ length s

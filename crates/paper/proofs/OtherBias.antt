@@ -1,6 +1,6 @@
 -- A job with another bias: Open answers as it does of the job, since byte 3 has no part in its tests, and dimension, bodies, box and
 -- readable vertices are the job's; only the values go by the other bias. With bias 0 everything is as it was before the request.
-use Prim.Native.Nat.{ℕ, suc, zero, _+_, _*_, _-_, _≤_, _<_}
+use Prim.Native.Nat.{ℕ, suc, zero, _+_, _*_, _≤_, _<_}
 use native.Mathlib.Omega.{arith}
 use mathlib.Core.Logic.{_≢_, _↔_}
 use mathlib.Core.Path.{_≡_, refl, sym, ap, ap₂, _∙_}
@@ -11,20 +11,19 @@ use lib.ListN.{length, take, drop, length-set, List·getD-eq-default}
 use lib.Seq.{getD-set-same, getD-set-other, drop-set-lt}
 use lib.Dec.{eqb, ltb}
 use borrow.Author.Tests.{ltb-true, ltb-false, eqb-false, le-ltb, eq-eqb, ne-eqb}
-use Rattle.curves.specs.Grid.{Vertex, Facet, facetVertices, placeOk}
+use Rattle.curves.specs.Grid.{Vertex, Facet, facetVertices}
 use Rattle.curves.specs.Step.{Field, every}
 use Rattle.curves.specs.Joined.{Joined}
 use Rattle.paper.specs.Bytes.{byte, word}
 use Rattle.paper.specs.Limits.{readableLimit}
-use Rattle.paper.specs.Job.{dimension, bias, entryOffset, entryLength, contentsEnd, contentsOk, body, boxOk, allFrom, polynomialOk, termCount, decodePlace}
+use Rattle.paper.specs.Job.{dimension, bias, entryOffset, entryLength, contentsEnd, contentsOk, body, termCount}
 use Rattle.paper.specs.Job.{refuseIf, openRefusal}
 use Rattle.paper.specs.Values.{readableSum, valueOf, sums, insideFrom, fieldFrom, fieldOf}
 use Rattle.paper.specs.Operations.{unless, openValues, opened, polynomialTerms, startOf, facetRefusal}
 use Rattle.paper.specs.Demand3.{InCurve}
 use Rattle.paper.specs.Bias.{withBias, biasedField, fieldWithoutBias, openRefusalWithoutBias}
-use Rattle.paper.proofs.Tests.{all-same}
 use Rattle.paper.proofs.Refusals.{refuse-here, refuse-later, answered-later, unless-refused}
-use Rattle.paper.proofs.Opens.{Opens, opens}
+use Rattle.paper.proofs.Opens.{Opens, opens, behindContents, behind-same}
 use Rattle.paper.proofs.Bodies.{contents-before}
 use Rattle.paper.proofs.WithStart.{entries-same, map-same, sums-same}
 use Rattle.paper.proofs.BiasedValues.{value-without-bias, readable-values}
@@ -71,22 +70,9 @@ module _ (s : List ℕ) (b : ℕ) where
 
 -- ---- Open's refusal
 
--- Open's tests behind that of the contents, 6 to 8: box, terms and start
-abbrev behindContents : ℕ → List ℕ → ℕ
-behindContents n s =
-    refuseIf (not (boxOk n (body s 0))) 6
-    (refuseIf (not (allFrom (λ k. polynomialOk n (body s k)) 1 (n - 1))) 7
-    (refuseIf (not (placeOk n (decodePlace n (body s n)))) 8 0))
-
 module _ (s : List ℕ) (b : ℕ) where
-  bodies-same : (n : ℕ) → contentsOk n s ≡ true → behindContents n (withBias s b) ≡ behindContents n s
-  bodies-same n h =
-      rw (
-        other-body s b n 0 h (omega arith),
-        all-same (λ k. polynomialOk n (body (withBias s b) k)) (λ k. polynomialOk n (body s k)) 1 (n - 1)
-            (λ k l u. ap (polynomialOk n) (other-body s b n k h (omega arith))),
-        other-body s b n n h (omega arith),
-      )
+  bodies-same : (n : ℕ) → contentsOk n s ≡ true → behindContents n (body (withBias s b)) ≡ behindContents n (body s)
+  bodies-same n h = behind-same n (body (withBias s b)) (body s) (λ k l. other-body s b n k h l)
 
   -- byte 3 has no part in Open's tests, whatever the bytes
   pub withBias-open : openRefusal (withBias s b) ≡ openRefusal s
@@ -102,8 +88,8 @@ module _ (s : List ℕ) (b : ℕ) where
       (ap (refuseIf _ 1) (ap (refuseIf _ 2) (ap (refuseIf _ 3) (ap (refuseIf _ 4) (go (contentsOk (dimension s) s) refl)))))
     where
       go : (t : Bool) → contentsOk (dimension s) s ≡ t
-          → refuseIf (not (contentsOk (dimension s) s)) 5 (behindContents (dimension s) (withBias s b))
-          ≡ refuseIf (not (contentsOk (dimension s) s)) 5 (behindContents (dimension s) s)
+          → refuseIf (not (contentsOk (dimension s) s)) 5 (behindContents (dimension s) (body (withBias s b)))
+          ≡ refuseIf (not (contentsOk (dimension s) s)) 5 (behindContents (dimension s) (body s))
       go true e = ap (refuseIf _ 5) (bodies-same (dimension s) e)
       go false e = refuse-here 5 _ (ap not e) ∙ sym (refuse-here 5 _ (ap not e))
 

@@ -73,6 +73,16 @@ unfolding unless
 answered-inv zero a b h = record { none = refl; is = cc }
 answered-inv (suc k) a b h = let z : _≡_ {A = ℕ} 0 1 = cc in absurd (omega arith)
 
+-- a refusal is the number that refuses
+pub record RefusedBy (k m : ℕ) : Type 0 where
+  pub some : 0 < k
+  pub is : k ≡ m
+
+pub refused-inv : {A : Type 0} (k : ℕ) (a : A) {m : ℕ} → unless k a ≡ refused m → RefusedBy k m
+unfolding unless
+refused-inv zero a h = let z : _≡_ {A = ℕ} 0 1 = cc in absurd (omega arith)
+refused-inv (suc k) a h = record { some = omega arith; is = cc }
+
 pub part-refused : (k : ℕ) (b : List ℕ) → (k ≡ 0 → ⊥) → partUnless k b ≡ []
 unfolding partUnless
 part-refused zero b h = absurd (h refl)

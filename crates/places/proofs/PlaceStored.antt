@@ -1,6 +1,5 @@
 -- A place's bytes, stored one number behind another, are the bytes that the definition gives it.
 use Prim.Native.Nat.{ℕ, suc, zero, _+_, _*_, _-_, _^_, _≤_, _<_}
-use native.Mathlib.Nat.{add-zero}
 use native.Mathlib.Omega.{arith}
 use native.Mathlib.Numerals.{unary-clauses}
 use mathlib.Core.Path.{_≡_, refl, sym, ap, _∙_}
@@ -21,6 +20,7 @@ use Rattle.paper.specs.Job.{vertexBytes, encodePlace}
 use Rattle.paper.specs.Operations.{encodePlaces}
 use Rattle.paper.proofs.ShortPlaces.{short, shortPlace}
 use Rattle.bits.specs.Axes.{Axes}
+use Rattle.bits.proofs.Sets.{sets-append}
 use Rattle.bits.proofs.EachDimension.{each-axes}
 use Rattle.places.specs.Held.{counted, vertexAs, masksAs, facetAs, placeAs}
 use Rattle.places.specs.PlaceBytes.{FitsBytes}
@@ -112,11 +112,6 @@ module _ (b : List ℕ) (at : ℕ) where
   masks-stored {n} p a e f g = rw (g, f, e) (masks-in-order p n a)
 
 -- ---- the parts of a place, one behind another
-
-pub sets-append : (l : List ℕ) (i : ℕ) (us vs : List ℕ) → sets l i (us ++ vs) ≡ sets (sets l i us) (i + length us) vs
-sets-append l i [] vs = ap (λ k. sets l k vs) (sym (add-zero i))
-sets-append l i (u ∷ us) vs =
-    sets-append (set l i u) (suc i) us vs ∙ ap (λ k. sets (sets (set l i u) (suc i) us) k vs) (omega arith)
 
 bytes-length : (v : Grid.Vertex) → length (vertexBytes v) ≡ 2 * length v
 unfolding vertexBytes wordBytes

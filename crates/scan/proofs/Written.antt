@@ -12,7 +12,7 @@ use Rattle.curves.specs.Box.{keep}
 use Rattle.paper.specs.Job.{encodePlace}
 use Rattle.paper.specs.Operations.{encodePlaces}
 use Rattle.paper.proofs.Encode.{encode-length}
-use Rattle.places.proofs.PlaceStored.{sets-append}
+use Rattle.bits.proofs.Sets.{sets-append}
 use Rattle.seamlist.specs.Seams.{front}
 use Rattle.scan.specs.declared.Scanned as Code
 use Rattle.scan.specs.Scanned.{spaceFor, Puts, NoSpace, ScannedIs}

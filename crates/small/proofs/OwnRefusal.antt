@@ -11,10 +11,10 @@ use lib.Dec.{eqb, lit≤}
 use borrow.Author.Tests.{eqb-true, eqb-false}
 use Rattle.curves.specs.Grid.{Facet}
 use Rattle.paper.specs.Job.{refuseIf, openRefusal}
-use Rattle.paper.specs.Operations.{refused, answered, unless, firstRefusal, opened, bodyRefusal, facetRefusal, judgeRefusal, judged, pointRefusal, pointed, stepped, traceRefusal, traced}
+use Rattle.paper.specs.Operations.{refused, unless, firstRefusal, opened, bodyRefusal, facetRefusal, judgeRefusal, judged, pointRefusal, pointed, stepped, traceRefusal, traced}
 use Rattle.paper.specs.Pen.{closes, penRefusal, penned}
 use Rattle.paper.specs.RunningSum.{runningSumRefusal, runningSummed}
-use Rattle.paper.proofs.Refusals.{refuse-later, first-refuses, first-passes}
+use Rattle.paper.proofs.Refusals.{refuse-later, first-refuses, first-passes, refused-inv}
 use Rattle.grounds.specs.Judged.{judgedBy}
 use Rattle.small.specs.Small.{jobSmall, smallRefusal, smallTraceRefusal, TooLarge}
 use Rattle.small.proofs.TooLarge.{refused-alike, refuses-large, fails-large}
@@ -30,15 +30,6 @@ first-most : (a b m : ℕ) → a ≤ m → b ≤ m → firstRefusal a b ≤ m
 unfolding firstRefusal
 first-most zero b m h l = l
 first-most (suc a) b m h l = h
-
--- a refusal that is answered is the number that refuses
-refused-number : {A : Type 0} (k : ℕ) (a : A) {m : ℕ} → unless k a ≡ refused m → k ≡ m
-unfolding unless
-refused-number zero a h = absurd (answered≢refused h)
-  where
-    answered≢refused : {A : Type 0} {a : A} {m : ℕ} → answered a ≡ refused m → ⊥
-    answered≢refused e = let z : _≡_ {A = ℕ} 0 1 = cc in omega arith
-refused-number (suc k) a h = cc
 
 -- ---- the highest number of each operation
 
@@ -88,7 +79,7 @@ sum-most s p v k =
 -- ---- no other operation answers 17
 
 not-17 : {A : Type 0} (k : ℕ) (a : A) → k ≤ 13 → unless k a ≢ refused 17
-not-17 k a h e = omega (arith, h, refused-number k a e)
+not-17 k a h e = omega (arith, h, refused-inv k a e .is)
 
 module _ (s : List ℕ) where
   pub open-never : opened s ≢ refused 17

@@ -22,7 +22,8 @@ use Rattle.paper.specs.declared.Traced as Traced
 use Rattle.paper.proofs.Encode.{encode-length}
 use Rattle.places.specs.Held.{placeAs}
 use Rattle.places.specs.declared.HeldPlace.{HeldPlace}
-use Rattle.places.proofs.PlaceStored.{sets-append, encodePlaces-snoc}
+use Rattle.bits.proofs.Sets.{sets-append}
+use Rattle.places.proofs.PlaceStored.{encodePlaces-snoc}
 use Rattle.step.specs.Held.{Held}
 use Rattle.carried.specs.declared.Entered.{Entered}
 use Rattle.ahead.specs.declared.Visited as Code

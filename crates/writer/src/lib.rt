@@ -4,7 +4,7 @@
 ghost use mathlib.Core.Path.{_≡_};
 ghost use Prim.Native.Nat.{_+_, _≤_};
 ghost use lib.ListN.{length};
-ghost use Rattle.assembly.specs.Assembled.{bodiesOf, contentsOf, jobOf};
+ghost use Rattle.assembly.specs.Assembled.{bodiesOf, contentsOf, jobFrom};
 ghost use Rattle.laying.specs.Laid.{bodyAt, Laid};
 ghost use Rattle.writer.specs.Advanced.{advanced};
 
@@ -15,7 +15,7 @@ pub struct Writer<'a> {
 
 // The contents of a job, laid at the writer's position.
 pub fn put_contents<'a, 'b>(w: Writer<'a>, n: usize, bias: u8, bodies: [&'b [u8]; 5]) -> Writer<'a>
-    requires { ⌜ (n ≤ 4) × (w .at + length (jobOf n bias (bodyAt bodies)) ≤ length (now (w .buffer))) ⌝ }
+    requires { ⌜ (n ≤ 4) × (w .at + length (jobFrom n bias (bodyAt bodies)) ≤ length (now (w .buffer))) ⌝ }
     ensures { λ r. ⌜ r ≡ advanced (w .entry) (contentsOf n bias (bodyAt (bodies .entry))) ⌝ }
 {
     let at = w.at;
@@ -37,8 +37,8 @@ pub fn put_bodies<'a, 'b>(w: Writer<'a>, n: usize, bodies: [&'b [u8]; 5]) -> usi
 
 // The job whose body k stands at index k, from the buffer's front on; the answer is its length.
 pub fn lay<'b>(buffer: &mut [u8], n: usize, bias: u8, bodies: [&'b [u8]; 5]) -> usize
-    requires { ⌜ (n ≤ 4) × (length (jobOf n bias (bodyAt bodies)) ≤ length (now buffer)) ⌝ }
-    ensures { λ r. ⌜ Laid (now (buffer .entry)) 0 (jobOf n bias (bodyAt (bodies .entry))) (now (buffer .exit)) r ⌝ }
+    requires { ⌜ (n ≤ 4) × (length (jobFrom n bias (bodyAt bodies)) ≤ length (now buffer)) ⌝ }
+    ensures { λ r. ⌜ Laid (now (buffer .entry)) 0 (jobFrom n bias (bodyAt (bodies .entry))) (now (buffer .exit)) r ⌝ }
 {
     let w = put_contents(
         Writer {

@@ -1,9 +1,9 @@
 -- `laying::lay_body` meets its contract: after i turns the first i bytes of the body are laid.
 use Prim.Native.Nat.{ℕ, _+_, _-_, _≤_}
 use native.Mathlib.Omega.{arith}
-use mathlib.Core.Path.{_≡_, refl, sym, ap, _∙_}
+use mathlib.Core.Path.{_≡_, refl, ap, _∙_}
 use mathlib.Core.List.{List}
-use lib.ListN.{length, take, getD, set, length-set}
+use lib.ListN.{length, take, getD, set}
 use lib.Seq.{sets, length-sets, take-all}
 use denote.Ref.{now}
 use Rattle.laying.specs.Laid.{Laid}

@@ -5,7 +5,6 @@ use mathlib.Core.Path.{_≡_, ap}
 use mathlib.Core.List.{List}
 use lib.IntN.{pos}
 use lib.ListN.{length}
-use denote.Ref.{now}
 use Rattle.paper.specs.Bytes.{wordBytes}
 use Rattle.paper.specs.Job.{contentsEnd}
 use Rattle.assembly.specs.Assembled.{bodiesOf, entriesOf}

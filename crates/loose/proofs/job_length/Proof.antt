@@ -1,5 +1,5 @@
 -- `loose::job_length` meets its contract: after k turns it is the length of the contents and the first k bodies.
-use mathlib.Core.Path.{_≡_, refl, ap, _∙_}
+use mathlib.Core.Path.{_≡_, ap, _∙_}
 use mathlib.Core.Bool.{true}
 use mathlib.Core.List.{List, []}
 use Prim.Native.Nat.{ℕ, _+_, _*_, _-_, _≤_, _<_}
@@ -10,11 +10,10 @@ use Rattle.paper.specs.Job.{contentsEnd}
 use Rattle.bits.specs.Axes.{Axes}
 use Rattle.assembly.specs.Assembled.{bodiesOf}
 use Rattle.assembly.specs.LooseRefusal.{lengthsOk}
-use Rattle.assembly.proofs.Entries.{kind-small}
+use Rattle.assembly.proofs.Entries.{kind-small, kind-at}
 use Rattle.laying.specs.Laid.{bodyAt}
 use Rattle.laying.proofs.Behind.{offset-more}
 use Rattle.laying.proofs.BodyRead.{body-read}
-use Rattle.loose.proofs.FormSteps.{length-at}
 use Rattle.loose.proofs.job_length.Statement.{statement}
 use Rattle.loose.proofs.job_length.Tie as tie
 
@@ -25,7 +24,7 @@ record Summed (n : ℕ) (f : ℕ → List ℕ) (total k : ℕ) : Type 0 where
 
 -- a body of the right length is short
 body-short : (n : ℕ) (f : ℕ → List ℕ) → Axes n → lengthsOk n f ≡ true → (k : ℕ) → k < n + 1 → length (f k) ≤ 560
-body-short n f a h k l = kind-small n k (length (f k)) (a .high) (omega arith) (length-at n f h k (omega arith))
+body-short n f a h k l = kind-small n k (length (f k)) (a .high) (omega arith) (kind-at n f h k (omega arith))
 
 sum-more : {n sum k l : ℕ} {f : ℕ → List ℕ} → Summed n f sum k → l ≡ length (f k) → l ≤ 560 → k < n + 1 → Summed n f (sum + l) (k + 1)
 sum-more {n} {sum} {k} {l} {f} p e s u = record {

@@ -42,7 +42,7 @@ use denote.Triple.Table.{entered, cited}
 use denote.Triple.Walked.{says, needs, Stays, stay-none, gave-slice, walkOf, goes-none, goes-gave-slice, Walks, ends-at, walked, walk-meets}
 use denote.Exit.{yes}
 use denote.Signature.{plain}
-use Rattle.assembly.specs.Assembled.{bodiesOf, contentsOf, jobOf}
+use Rattle.assembly.specs.Assembled.{bodiesOf, contentsOf, jobFrom}
 use Rattle.laying.specs.Laid.{bodyAt, Laid}
 use Rattle.writer.specs.declared.Writer.{Writer}
 use Rattle.writer.specs.Advanced.{advanced}
@@ -80,7 +80,7 @@ module _ {M : Type 1} (𝓤 : URA M) (H : Heap 𝓤) (A : Atoms 𝓤) (mem : Mem
   contents-of κs h n v xs r = exE 𝓤 _ (λ ws. snd∗ 𝓤 (sem 𝓤 H A (lasts put-contents.ended κs (h, (n, (v, (xs, tt)))) ws)) (fact 𝓤 (r ≡ advanced h (contentsOf n v (bodyAt xs)))))
 
 module _ {M : Type 1} (𝓤 : URA M) (H : Heap 𝓤) (A : Atoms 𝓤) (W : Given 𝓤 H A) (mem : Memory → SProp 𝓤) (run : Routine → Fun 𝓤) (κ κ′ : Lft) (q q′ : Share) (b o : ℕ) (γ : GName) (ys : List ℕ) (n v : ℕ) (xs : List (RefT (List ℕ))) (m : Val)
-    (n-fits : n < 2 ^ 64) (v-fits : v < 2 ^ 8) (within : (n ≤ 4) × (length (jobOf n v (bodyAt xs)) ≤ length ys)) where
+    (n-fits : n < 2 ^ 64) (v-fits : v < 2 ^ 8) (within : (n ≤ 4) × (length (jobFrom n v (bodyAt xs)) ≤ length ys)) where
   abbrev α : NamedLft
   α = record { mir = named 0; lft = κ }
 
@@ -114,7 +114,7 @@ module _ {M : Type 1} (𝓤 : URA M) (H : Heap 𝓤) (A : Atoms 𝓤) (W : Given
   abbrev h₁ : Writer
   h₁ = advanced h₀ contents
 
-  within₀ : (n ≤ 4) × (0 + length (jobOf n v (bodyAt xs)) ≤ length ys)
+  within₀ : (n ≤ 4) × (0 + length (jobFrom n v (bodyAt xs)) ≤ length ys)
   within₀ = (within .0, omega (arith, within .1))
 
   within₁ : (n ≤ 4) × (0 + length contents + length bodies ≤ length (sets ys 0 contents))
@@ -213,7 +213,7 @@ module _ {M : Type 1} (𝓤 : URA M) (H : Heap 𝓤) (A : Atoms 𝓤) (W : Given
       → Walks 𝓤 H A lay.ended stayed (WpFn 𝓤 H C Λ code.function) (lay.clauses 𝓤 H A mem run)
   lay-walks C Λ fm known-contents known-bodies = walked 𝓤 H A lay.ended stayed (lay.clauses 𝓤 H A mem run) (WpFn 𝓤 H C Λ code.function)
       (λ κs. (slice-vals, (uint-vals w64, (uint-vals w8, (bodyVals, tt))))) (λ κs. (mut-slice-tells (named 0) (κs .0) u8, (uint-tells w64, (uint-tells w8, (bodies-tell (κs .1 .0), tt)))))
-      (λ κs qs bounds a g are. needs 𝓤 ((a .1 .0 ≤ 4) × (length (jobOf (a .1 .0) (a .1 .1 .0) (bodyAt (a .1 .1 .1 .0))) ≤ length (a .0 .now))) _ (λ within.
+      (λ κs qs bounds a g are. needs 𝓤 ((a .1 .0 ≤ 4) × (length (jobFrom (a .1 .0) (a .1 .1 .0) (bodyAt (a .1 .1 .1 .0))) ≤ length (a .0 .now))) _ (λ within.
       walk 𝓤 H A W mem run (κs .0) (κs .1 .0) (qs .0) (qs .1 .0) (a .0 .ptr .0) (a .0 .ptr .1) (a .0 .name) (a .0 .now) (a .1 .0) (a .1 .1 .0) (a .1 .1 .1 .0) (only (bodyVals (a .1 .1 .1 .0))) (are .1 .0 .1) (are .1 .1 .0 .1) within C Λ fm known-contents known-bodies (are .1 .1 .1 .0) (are .0 .0 .1)))
 
 lay-meets : {M : Type 1} (𝓤 : URA M) (H : Heap 𝓤) (A : Atoms 𝓤) → Given 𝓤 H A → (mem : Memory → SProp 𝓤) (run : Routine → Fun 𝓤) (𝓣 : Tables 𝓤 H)

@@ -42,7 +42,7 @@ use denote.Triple.Walked.{says, needs, Stays, stay-none, walkOf, goes-none, Walk
 use denote.Exit.{yes}
 use denote.Signature.{namedLft}
 use denote.Signature.Struct.{inStruct, makes}
-use Rattle.assembly.specs.Assembled.{contentsOf, jobOf}
+use Rattle.assembly.specs.Assembled.{contentsOf, jobFrom}
 use Rattle.laying.specs.Laid.{bodyAt, Laid}
 use Rattle.writer.specs.declared.Writer.{Writer}
 use Rattle.writer.proofs.Writer as T
@@ -114,7 +114,7 @@ module _ {M : Type 1} (𝓤 : URA M) (H : Heap 𝓤) (A : Atoms 𝓤) (W : Given
   bytes = contentsOf n v (bodyAt xs)
 
   abbrev Within : Type 0
-  Within = (n ≤ 4) × (p + length (jobOf n v (bodyAt xs)) ≤ length ys)
+  Within = (n ≤ 4) × (p + length (jobFrom n v (bodyAt xs)) ≤ length ys)
 
   -- what `lay_contents`' triple binds outside: the slice lent again for the lifetime ν, under the name δ
   abbrev to-lay : ℕ → GName → LayContents 𝓤 H A mem run .Ghost
@@ -190,7 +190,7 @@ module _ {M : Type 1} (𝓤 : URA M) (H : Heap 𝓤) (A : Atoms 𝓤) (W : Given
   put-contents-walks : (C : Calls 𝓤 H) (Λ : Loops 𝓤 H) → FmC 𝓤 H (W .laws) C → Triple 𝓤 (C #laying·lay-contents) (LayContents 𝓤 H A mem run) → Walks 𝓤 H A put-contents.ended stayed (WpFn 𝓤 H C Λ code.function) (put-contents.clauses 𝓤 H A mem run)
   put-contents-walks C Λ fm known = walked 𝓤 H A put-contents.ended stayed (put-contents.clauses 𝓤 H A mem run) (WpFn 𝓤 H C Λ code.function)
       (λ κs. (LL.vals (T.the-type (namedLft 2 0 tt κs)) (T′.the-laws (namedLft 2 0 tt κs)), (uint-vals w64, (uint-vals w8, (bodyVals, tt))))) (λ κs. (LL.tells (T.the-type (namedLft 2 0 tt κs)) (T′.the-laws (namedLft 2 0 tt κs)), (uint-tells w64, (uint-tells w8, (bodies-tell (κs .1 .0), tt)))))
-      (λ κs qs bounds a g are. needs 𝓤 ((a .1 .0 ≤ 4) × (a .0 .at + length (jobOf (a .1 .0) (a .1 .1 .0) (bodyAt (a .1 .1 .1 .0))) ≤ length (a .0 .buffer .now))) _ (λ within.
+      (λ κs qs bounds a g are. needs 𝓤 ((a .1 .0 ≤ 4) × (a .0 .at + length (jobFrom (a .1 .0) (a .1 .1 .0) (bodyAt (a .1 .1 .1 .0))) ≤ length (a .0 .buffer .now))) _ (λ within.
       let fields = LL.owed (T.the-type (namedLft 2 0 tt κs)) (T′.the-laws (namedLft 2 0 tt κs)) (a .0) _ (are .0) in
       walk 𝓤 H A W mem run (κs .0) (κs .1 .0) (qs .0) (qs .1 .0) (a .0 .buffer .ptr .0) (a .0 .buffer .ptr .1) (a .0 .buffer .name) (a .0 .buffer .now) (a .0 .at) (a .1 .0) (a .1 .1 .0) (a .1 .1 .1 .0) (only (bodyVals (a .1 .1 .1 .0))) (fields .1 .0 .1) (are .1 .0 .1) (are .1 .1 .0 .1) C Λ fm known (are .0) (are .1 .1 .1 .0) (fields .0 .0 .1) within))
 
