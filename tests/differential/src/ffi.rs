@@ -12,6 +12,7 @@ use reference::operations::{Move, Step, Verdict};
 use reference::order::CutOrder;
 use reference::product::Product;
 use reference::seams::Ending;
+use reference::writing::Loose;
 
 #[repr(C)]
 #[derive(Clone, Copy, PartialEq, Debug)]
@@ -103,6 +104,13 @@ struct OrderAnswer {
 
 #[repr(C)]
 #[derive(Clone, Copy, PartialEq, Debug)]
+struct WriteAnswer {
+    refusal: u64,
+    length: u64,
+}
+
+#[repr(C)]
+#[derive(Clone, Copy, PartialEq, Debug)]
 struct PenAnswer {
     refusal: u64,
     kind: u64,
@@ -188,6 +196,22 @@ extern "C" {
         places: *const u8,
         places_len: usize,
     ) -> OrderAnswer;
+    fn gethwapiko_write_job(
+        n: u64,
+        bias: u8,
+        ends: *const u8,
+        ends_len: usize,
+        polynomial1: *const u8,
+        polynomial1_len: usize,
+        polynomial2: *const u8,
+        polynomial2_len: usize,
+        polynomial3: *const u8,
+        polynomial3_len: usize,
+        start: *const u8,
+        start_len: usize,
+        buffer: *mut u8,
+        buffer_len: usize,
+    ) -> WriteAnswer;
 }
 
 /// The refusal, if there is one, with the rest of the answer checked to be 0.
@@ -396,5 +420,29 @@ impl Product for Library {
             return Ok(CutOrder::Stands);
         }
         Ok(CutOrder::Breaks(a.position as usize))
+    }
+    #[inline]
+    fn write_job(&self, loose: &Loose, buffer: &mut [u8]) -> Result<usize, u8> {
+        let [p1, p2, p3] = &loose.polynomials;
+        let a = unsafe {
+            gethwapiko_write_job(
+                loose.n,
+                loose.bias,
+                loose.ends.as_ptr(),
+                loose.ends.len(),
+                p1.as_ptr(),
+                p1.len(),
+                p2.as_ptr(),
+                p2.len(),
+                p3.as_ptr(),
+                p3.len(),
+                loose.start.as_ptr(),
+                loose.start.len(),
+                buffer.as_mut_ptr(),
+                buffer.len(),
+            )
+        };
+        refused(a.refusal, a.length == 0)?;
+        Ok(a.length as usize)
     }
 }

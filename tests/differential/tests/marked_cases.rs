@@ -1,6 +1,6 @@
 //! Cases A to J, their like in dimension 4 and at a bias, running sums, halves of a step, grounds,
-//! the small cutter, the list of seams, the order of cutting, and the wrong turns on the proved
-//! library.
+//! the small cutter, the list of seams, the order of cutting, the writer, and the wrong turns on the
+//! proved library.
 
 use library::ffi::Library;
 use reference::marked;
@@ -48,6 +48,11 @@ fn seams() {
 #[test]
 fn order() {
     marked::order(&Library);
+}
+
+#[test]
+fn writing() {
+    marked::writing(&Library);
 }
 
 #[test]

@@ -9,7 +9,8 @@
 //! has jobs for how traces go from one simplex to the next, and cubes with many ties, `outlines` has
 //! jobs for the list of seams, `nests` has jobs for the order of cutting, `small_cutter` has jobs at
 //! the limits of the small cutter, `places` has places to judge and to step from, `sums` has running
-//! sums to ask for, `bodies` has polynomials with bad terms, `term_faults` what makes a term bad.
+//! sums to ask for, `bodies` has polynomials with bad terms, `term_faults` what makes a term bad,
+//! `loose` has loose bodies to write a job from, and what is wrong with them.
 //!
 //! What is tried has a name, and each input says by which names it was made: a test counts them.
 
@@ -19,6 +20,7 @@ mod changes;
 mod directions;
 mod halves;
 mod kinds;
+mod loose;
 mod nests;
 mod outlines;
 mod places;
@@ -32,6 +34,10 @@ pub use bodies::{any_bodies, AnyBodies, BodyKind, TermChange};
 pub use changes::{any_change, any_job, dimension_written, AnyJob, Change, Damage, JobTally};
 pub use directions::{of_any_course, of_course, through_cube, with_many_ties, Course};
 pub use kinds::{valid, valid_for_rounding, valid_of_any, valid_small, vertex_in, Kind, Made};
+pub use loose::{
+    any_loose, resize, with_loose_faults, AnyLoose, EndsFault, Fault as LooseFault, LengthFault,
+    LooseKind, LooseTally, StartFault, TermFault, Unread,
+};
 pub use nests::{nest_of, Nest};
 pub use outlines::{any_job_in_small_box, any_outlines, outlines_of, Outline, Size};
 pub use places::{any_place, AnyPlace, PlaceDamage, PlaceKind, PlaceTally};

@@ -40,3 +40,6 @@ pub mod tally;
 pub mod term_checks;
 pub mod trace_and_step;
 pub mod transitions_met;
+pub mod writing;
+pub mod writing_checks;
+pub mod writing_met;

@@ -1,6 +1,6 @@
 //! "Marked cases" A to J, their like in dimension 4 and at a bias, running sums, halves of a step,
-//! grounds, the small cutter, the list of seams, the order of cutting, and the wrong turns, as
-//! checks of any product.
+//! grounds, the small cutter, the list of seams, the order of cutting, the writer, and the wrong
+//! turns, as checks of any product.
 
 use crate::build::{case_a, case_c, exponents, gathered, place, power_of, product, term, Parts};
 use crate::crossed::Term;
@@ -11,6 +11,7 @@ use crate::operations::{with_start, Move, Step, Verdict};
 use crate::order::CutOrder;
 use crate::product::Product;
 use crate::seams::Ending;
+use crate::writing::{Loose, Which};
 
 /// The bytes of case A's job, as the paper lays them out.
 pub const CASE_A: [u8; 54] = [
@@ -1382,6 +1383,125 @@ fn refusals_of_order(p: &dyn Product) {
             assert_eq!(order_of(p, &alone.bytes(), &[facet]), Err(18));
             assert_eq!(order_of(p, &alone.bytes(), &[place(&[20, 0], &[2], side), facet]), Err(10));
             assert_eq!(order_of(p, &alone.bytes(), &[facet, place(&[20, 0], &[2], side)]), Err(18));
+        }
+    }
+}
+
+/// The bytes of case C's job in dimension 3, and of its like in dimension 4.
+const CASE_C_3: [u8; 57] = [
+    1, 3, 4, 0, 20, 0, 12, 0, 32, 0, 8, 0, 40, 0, 8, 0, 48, 0, 9, 0, // contents
+    0, 0, 1, 0, 0, 0, 1, 0, 0, 0, 1, 0, // box
+    1, 0, 0, 0, 1, 0, 0, 0, // x
+    1, 0, 0, 0, 0, 1, 0, 0, // y
+    0, 0, 0, 0, 0, 0, 1, 3, 0, // start
+];
+const CASE_C_4: [u8; 76] = [
+    1, 4, 5, 0, 24, 0, 16, 0, 40, 0, 8, 0, 48, 0, 8, 0, 56, 0, 8, 0, 64, 0, 12, 0, // contents
+    0, 0, 1, 0, 0, 0, 1, 0, 0, 0, 1, 0, 0, 0, 1, 0, // box
+    1, 0, 0, 0, 1, 0, 0, 0, // x
+    1, 0, 0, 0, 0, 1, 0, 0, // y
+    1, 0, 0, 0, 0, 0, 1, 0, // z
+    0, 0, 0, 0, 0, 0, 0, 0, 1, 3, 7, 0, // start
+];
+
+/// Writes to a buffer of this space; a refusal touches no byte, and a job none behind it.
+fn written(p: &dyn Product, loose: &Loose, space: usize) -> Result<Vec<u8>, u8> {
+    let mut buffer = vec![PATTERN; space];
+    let answer = p.write_job(loose, &mut buffer);
+    let rest = &buffer[answer.unwrap_or(0)..];
+    assert!(rest.iter().all(|&b| b == PATTERN), "{answer:?} for {loose:?}");
+    answer.map(|length| buffer[..length].to_vec())
+}
+
+/// Request 2.2: a job from loose bodies.
+pub fn writing(p: &dyn Product) {
+    let jobs = [(case_a(), &CASE_A[..]), (case_c(3), &CASE_C_3), (case_c(4), &CASE_C_4)];
+    for (parts, job) in jobs {
+        let loose = Loose::of(&parts);
+        for space in 0..job.len() {
+            assert_eq!(written(p, &loose, space), Err(16), "space {space}");
+        }
+        for space in [0, 1, 2, 3, 50].map(|more| job.len() + more) {
+            assert_eq!(written(p, &loose, space), Ok(job.to_vec()), "space {space}");
+        }
+        // The bias is byte 3.
+        for bias in [1, 2, 128, 255] {
+            let with_bias = [&job[..3], &[bias], &job[4..]].concat();
+            let biased = Loose { bias, ..loose.clone() };
+            assert_eq!(written(p, &biased, job.len()), Ok(with_bias));
+        }
+        // What is not read changes nothing.
+        for more in [vec![0], vec![255; 9], loose.polynomials[0].clone(), vec![7; 70_000]] {
+            let mut other = loose.clone();
+            other.polynomials[parts.n - 1..].fill(more);
+            assert_eq!(written(p, &other, 80), Ok(job.to_vec()));
+        }
+        refusals_of_writing(p, &parts);
+    }
+    written_with_all_terms(p);
+}
+
+/// All 70 terms of dimension 4 in each polynomial: offsets and lengths need both of their bytes.
+fn written_with_all_terms(p: &dyn Product) {
+    let all: Vec<Term> = exponents(4).iter().map(|e| term(1, e)).collect();
+    let loose = Loose::of(&Parts { polynomials: vec![all; 3], ..case_c(4) });
+    let job = written(p, &loose, 1_732).expect("a job");
+    let entries =
+        [[24, 0, 16, 0], [40, 0, 48, 2], [88, 2, 48, 2], [136, 4, 48, 2], [184, 6, 12, 0]];
+    assert_eq!(job[..24], [&[1, 4, 5, 0][..], &entries.concat()].concat());
+    assert!(job[40..600] == loose.polynomials[0] && job[1_720..] == loose.start);
+    assert_eq!(p.open(&job), Ok((4, vec![70; 3])));
+    assert_eq!(written(p, &loose, 1_731), Err(16));
+}
+
+/// The refusal in a buffer that is long enough. In one without a byte it is the same, or 16.
+fn refused_writing(p: &dyn Product, loose: &Loose) -> Option<u8> {
+    let [none, enough] = [0, 2_000].map(|space| written(p, loose, space).err());
+    assert_eq!(none, enough.or(Some(16)), "{loose:?}");
+    enough
+}
+
+/// Each of them, and which comes first.
+fn refusals_of_writing(p: &dyn Product, parts: &Parts) {
+    let (n, loose) = (parts.n, Loose::of(parts));
+    // 3: any number but the three, whatever the bodies.
+    let low = n as u64;
+    let empty =
+        Loose { ends: vec![], polynomials: Default::default(), start: vec![], ..loose.clone() };
+    for number in [0, 1, 5, 255, 256 + low, (1 << 16) + low, (1 << 32) + low, u64::MAX] {
+        for bodies in [&loose, &empty] {
+            let other = Loose { n: number, ..bodies.clone() };
+            assert_eq!(refused_writing(p, &other), Some(3), "{number}");
+        }
+    }
+    assert_eq!(refused_writing(p, &empty), Some(5));
+    wrong_lengths(p, n, &loose);
+    // 8, then with 7 too, with 6 and with 5: the least number.
+    let mut worse = loose.clone();
+    worse.start[3 * n - 1] = 2;
+    assert_eq!(refused_writing(p, &worse), Some(8));
+    worse.polynomials[n - 2][..4].fill(0);
+    assert_eq!(refused_writing(p, &worse), Some(7));
+    worse.ends.copy_within(4 * n - 2..4 * n, 4 * n - 4);
+    assert_eq!(refused_writing(p, &worse), Some(6));
+    worse.polynomials[0].push(0);
+    assert_eq!(refused_writing(p, &worse), Some(5));
+    assert_eq!(refused_writing(p, &Loose { n: 5, ..worse }), Some(3));
+}
+
+/// 5: the bodies of another dimension; each body empty, a byte shorter, a byte longer, and with
+/// 65,536 bytes more, which is the same length in 16 bits.
+fn wrong_lengths(p: &dyn Product, n: usize, loose: &Loose) {
+    for other in DIMENSIONS.into_iter().filter(|&other| other != n) {
+        let other = Loose { n: other as u64, ..loose.clone() };
+        assert_eq!(refused_writing(p, &other), Some(5));
+    }
+    for which in Which::of(n) {
+        let right = loose.body(which).len();
+        for length in [0, right - 1, right + 1, 65_536, right + 65_536] {
+            let mut other = loose.clone();
+            other.body_mut(which).resize(length, 0);
+            assert_eq!(refused_writing(p, &other), Some(5), "{length} bytes of {which:?}");
         }
     }
 }

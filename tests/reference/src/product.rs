@@ -9,6 +9,7 @@ use crate::operations::{self, Move, Step, Verdict};
 use crate::order::{self, CutOrder};
 use crate::seams::{self, Ending};
 use crate::small;
+use crate::writing::{self, Loose};
 
 /// Everything the product answers. A refusal is its number.
 pub trait Product {
@@ -40,6 +41,8 @@ pub trait Product {
     fn seams(&self, job: &[u8], buffer: &mut [u8]) -> Result<(Ending, usize), u8>;
     /// Whether the order of cutting that a list of places proposes stands.
     fn cut_order(&self, job: &[u8], list: &[u8]) -> Result<CutOrder, u8>;
+    /// The length of the job that was written from loose bodies.
+    fn write_job(&self, loose: &Loose, buffer: &mut [u8]) -> Result<usize, u8>;
 }
 
 /// What Open answers to a job that opens.
@@ -95,5 +98,8 @@ impl Product for Reference {
     }
     fn cut_order(&self, job: &[u8], list: &[u8]) -> Result<CutOrder, u8> {
         order::cut_order(job, list)
+    }
+    fn write_job(&self, loose: &Loose, buffer: &mut [u8]) -> Result<usize, u8> {
+        writing::write_job(loose, buffer)
     }
 }

@@ -1,5 +1,6 @@
 //! Cases A to J, their like in dimension 4 and at a bias, running sums, halves of a step, grounds,
-//! the small cutter, the list of seams, the order of cutting, and the wrong turns on the reference.
+//! the small cutter, the list of seams, the order of cutting, the writer, and the wrong turns on the
+//! reference.
 
 use reference::build::{case_a, case_c};
 use reference::listing::listing;
@@ -50,6 +51,11 @@ fn seams() {
 #[test]
 fn order() {
     marked::order(&Reference);
+}
+
+#[test]
+fn writing() {
+    marked::writing(&Reference);
 }
 
 #[test]
