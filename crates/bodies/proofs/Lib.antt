@@ -1,0 +1,2 @@
+-- The refusals of the bodies' tests.
+pub mod Steps
