@@ -1,4 +1,3 @@
 -- Laws that the proofs of the functions cite, a file for each idea.
 pub mod EntrySteps
 pub mod BoxTests
-pub mod BodyRead

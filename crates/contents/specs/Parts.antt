@@ -1,10 +1,10 @@
--- A body as a part of the job: what cutting it out asks, and where it then begins; and bodies by index.
+-- A body as a part of the job: what cutting it out asks, and where it then begins.
 use Prim.Native.Nat.{ℕ, _+_, _*_, _≤_}
-use mathlib.Core.List.{List, [], map}
+use mathlib.Core.List.{List}
 use mathlib.Core.Path.{_≡_}
-use lib.ListN.{length, getD}
-use denote.Ref.{RefT, now}
-use Rattle.paper.specs.Job.{entryOffset, entryLength, body}
+use lib.ListN.{length}
+use denote.Ref.{RefT}
+use Rattle.paper.specs.Job.{entryOffset, entryLength}
 
 -- the body's entry and the body itself lie inside the job
 pub record PartInside (s : List ℕ) (k : ℕ) : Type 0 where
@@ -14,11 +14,3 @@ pub record PartInside (s : List ℕ) (k : ℕ) : Type 0 where
 -- a part of lent bytes that begins so many bytes into them: in their block of memory, and so far behind their own offset there
 unfoldable pub BeginsAt : RefT (List ℕ) → ℕ → RefT (List ℕ) → Type 0
 BeginsAt whole offset part = part .ptr ≡ (whole .ptr .0, offset + whole .ptr .1)
-
--- body k of an array of parts of bytes
-unfoldable pub bodyAt : List (RefT (List ℕ)) → ℕ → List ℕ
-bodyAt bodies k = getD (map now bodies) k []
-
--- body k of the job stands at index k
-unfoldable pub BodiesOf : ℕ → List ℕ → List (RefT (List ℕ)) → Type 0
-BodiesOf n s bodies = (k : ℕ) → k ≤ n → bodyAt bodies k ≡ body s k

@@ -3,13 +3,12 @@
 use crate::limits;
 use bits::read;
 ghost use mathlib.Core.Path.{_≡_};
-ghost use mathlib.Core.Bool.{true};
 ghost use Prim.Native.Nat.{_+_, _*_, _≤_};
 ghost use lib.ListN.{length};
 ghost use Rattle.paper.specs.Job.{entryOffset, entryLength, contentsEnd, polynomialLengthOk, lengthOk, entriesOk, contentsOk, body};
 ghost use Rattle.bits.specs.Axes.{Axes};
 ghost use Rattle.bits.specs.Read.{Reads};
-ghost use Rattle.contents.specs.Parts.{PartInside, BeginsAt, BodiesOf};
+ghost use Rattle.contents.specs.Parts.{PartInside, BeginsAt};
 
 fn entry_offset(s: &[u8], k: usize) -> usize
     requires { ⌜ 4 * k + 8 ≤ length (now s) ⌝ }
@@ -94,27 +93,4 @@ pub fn part_of(job: &[u8], k: usize) -> &[u8]
     let from = entry_offset(job, k);
     let to = from + entry_length(job, k);
     &job[from..to]
-}
-
-// The smaller of two numbers.
-fn least(k: usize, n: usize) -> usize
-    ensures { λ r. ⌜ (k ≤ n → r ≡ k) × (r ≤ n) ⌝ }
-{
-    if k < n {
-        return k;
-    }
-    n
-}
-
-// The bodies of a job whose contents are right, by index; the start stands at every index behind its own as well.
-pub fn parts_of(n: usize, job: &[u8]) -> [&[u8]; 5]
-    requires { ⌜ (Axes n) × (contentsOk n (now job) ≡ true) ⌝ }
-    ensures { λ r. ⌜ BodiesOf n (now (job .entry)) r ⌝ }
-{
-    let first = part_of(job, 0);
-    let second = part_of(job, 1);
-    let third = part_of(job, 2);
-    let fourth = part_of(job, least(3, n));
-    let last = part_of(job, n);
-    [first, second, third, fourth, last]
 }

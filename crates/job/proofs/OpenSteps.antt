@@ -3,19 +3,18 @@
 use mathlib.Core.Path.{_≡_, sym, ap, _∙_}
 use mathlib.Core.Bool.{true, false, not}
 use mathlib.Core.List.{List, [], _∷_}
-use Prim.Native.Nat.{ℕ, _+_, _≤_, _<_}
+use Prim.Native.Nat.{ℕ, _+_, _-_, _≤_, _<_}
 use native.Mathlib.Omega.{arith}
 use lib.ListN.{length}
 use borrow.Author.Tests.{lt-ltb, le-ltb, eq-eqb, ne-eqb}
 use Rattle.exact.specs.Crossed.{countFrom}
+use Rattle.curves.specs.Grid.{placeOk}
 use Rattle.paper.specs.Bytes.{byte}
 use Rattle.paper.specs.Limits.{dimensionOk}
-use Rattle.paper.specs.Job.{dimension, entryOffset, contentsOk, body, refuseIf, openRefusal}
+use Rattle.paper.specs.Job.{dimension, entryOffset, contentsOk, body, boxOk, allFrom, polynomialOk, decodePlace, refuseIf, openRefusal}
 use Rattle.paper.specs.Operations.{refused, answered, polynomialTerms, openValues, opened, bodyRefusal}
 use Rattle.paper.proofs.Refusals.{refuse-here, refuse-later, first-refuses, first-passes, unless-refused, unless-answered}
-use Rattle.paper.proofs.Opens.{behind-same}
-use Rattle.bodies.specs.BodyTests.{boxRefusal}
-use Rattle.job.specs.BodyTests.{bodiesRefusal}
+use Rattle.job.specs.BodyTests.{bodiesRefusal, startRefusal}
 use Rattle.job.specs.PartOffset.{partOffset}
 
 -- ---- refusals 1 to 4
@@ -56,9 +55,27 @@ module _ (n : ℕ) (s : List ℕ) where
   unfolding refuseIf
   refuse-contents t = rw t
 
-  -- the contents are right: what is left is 6 to 8, of the parts that they name
-  pub contents-pass : contentsOk n s ≡ true → (f : ℕ → List ℕ) → ((k : ℕ) → k ≤ n → f k ≡ body s k) → boxRefusal n f ≡ bodiesRefusal n s
-  contents-pass t f h = behind-same n f (body s) h ∙ sym (refuse-later 5 _ (ap not t))
+  pub refuse-box : contentsOk n s ≡ true → boxOk n (body s 0) ≡ false → 6 ≡ bodiesRefusal n s
+  unfolding refuseIf
+  refuse-box t u = rw (t, u)
+
+  pub refuse-terms : contentsOk n s ≡ true → boxOk n (body s 0) ≡ true → allFrom (λ k. polynomialOk n (body s k)) 1 (n - 1) ≡ false
+      → 7 ≡ bodiesRefusal n s
+  unfolding refuseIf
+  refuse-terms t u v = rw (t, u, v)
+
+  pub start-decides : contentsOk n s ≡ true → boxOk n (body s 0) ≡ true → allFrom (λ k. polynomialOk n (body s k)) 1 (n - 1) ≡ true
+      → bodiesRefusal n s ≡ startRefusal n s
+  unfolding refuseIf
+  start-decides t u v = rw (t, u, v)
+
+  pub refuse-start : placeOk n (decodePlace n (body s n)) ≡ false → 8 ≡ startRefusal n s
+  unfolding refuseIf
+  refuse-start t = rw t
+
+  pub start-passes : placeOk n (decodePlace n (body s n)) ≡ true → 0 ≡ startRefusal n s
+  unfolding refuseIf
+  start-passes t = rw t
 
 -- ---- Open's answer
 

@@ -1,6 +1,7 @@
 // Open and Body of document 01: a job's bytes tested in the paper's order, and the parts of a job that opens.
 
 use bits::read;
+use contents::boxes;
 use contents::entries;
 use contents::limits;
 use paper::Opened;
@@ -15,6 +16,21 @@ ghost use Rattle.contents.specs.Parts.{BeginsAt};
 ghost use Rattle.job.specs.BodyTests.{bodiesRefusal};
 ghost use Rattle.job.specs.PartOffset.{partOffset};
 
+// Every polynomial's terms are right and rise.
+fn polynomials_ok(n: usize, job: &[u8]) -> bool
+    requires { ⌜ contentsOk n (now job) ≡ true ⌝ }
+    ensures { λ r. ⌜ r ≡ allFrom (λ k. polynomialOk n (body (now (job .entry)) k)) 1 (n - 1) ⌝ }
+{
+    let mut k = 1;
+    while k < n {
+        if !terms::polynomial_ok(n, entries::part_of(job, k)) {
+            return false;
+        }
+        k += 1;
+    }
+    true
+}
+
 // Open's refusals 5 to 8: contents, box, terms, start.
 fn bodies_refusal(n: usize, job: &[u8]) -> u64
     requires { ⌜ Axes n ⌝ }
@@ -23,7 +39,16 @@ fn bodies_refusal(n: usize, job: &[u8]) -> u64
     if !entries::contents_ok(n, job) {
         return 5;
     }
-    bodies::bodies_refusal(n, entries::parts_of(n, job))
+    if !boxes::box_ok(n, entries::part_of(job, 0)) {
+        return 6;
+    }
+    if !polynomials_ok(n, job) {
+        return 7;
+    }
+    if !places::place_ok(n, entries::part_of(job, n)) {
+        return 8;
+    }
+    0
 }
 
 // Open's refusal, tested in rising number; 0 if the job opens.

@@ -7,8 +7,7 @@ ghost use lib.ListN.{length};
 ghost use Rattle.paper.specs.Bytes.{wordBytes};
 ghost use Rattle.paper.specs.Job.{contentsEnd};
 ghost use Rattle.assembly.specs.Assembled.{entriesOf, bodiesOf, contentsOf, jobFrom};
-ghost use Rattle.contents.specs.Parts.{bodyAt};
-ghost use Rattle.laying.specs.Laid.{Laid};
+ghost use Rattle.laying.specs.Laid.{bodyAt, Laid};
 
 // The low 16 bits of a number, the low byte first.
 fn lay_word(buffer: &mut [u8], at: usize, word: usize) -> usize

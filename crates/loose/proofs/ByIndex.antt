@@ -5,7 +5,7 @@ use mathlib.Core.Path.{_≡_, refl, sym, subst}
 use mathlib.Core.List.{List, [], _∷_}
 use denote.Ref.{RefT, now}
 use Rattle.assembly.specs.Assembled.{Loose, handed, bodyOf}
-use Rattle.contents.specs.Parts.{bodyAt}
+use Rattle.laying.specs.Laid.{bodyAt}
 use Rattle.loose.specs.Arranged.{Arranged}
 
 module _ (b p q r s : RefT (List ℕ)) where

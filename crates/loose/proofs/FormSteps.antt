@@ -1,13 +1,13 @@
--- The lengths of loose bodies by kind, and their refusals 5 to 8, by the test of the lengths.
-use Prim.Native.Nat.{ℕ, _*_, _<_}
+-- The lengths of loose bodies by kind, and their refusals 5 to 8, each by the first test that failed.
+use Prim.Native.Nat.{ℕ, _*_, _-_, _<_}
 use native.Mathlib.Omega.{arith}
 use mathlib.Core.Path.{_≡_}
 use mathlib.Core.Bool.{true, false}
 use mathlib.Core.List.{List}
 use lib.ListN.{length}
-use Rattle.paper.specs.Job.{refuseIf}
+use Rattle.curves.specs.Grid.{placeOk}
+use Rattle.paper.specs.Job.{boxOk, allFrom, polynomialOk, decodePlace, refuseIf}
 use Rattle.paper.proofs.Bodies.{box-kind, start-kind}
-use Rattle.bodies.specs.BodyTests.{boxRefusal}
 use Rattle.assembly.specs.LooseRefusal.{lengthsOk, formRefusal}
 use Rattle.assembly.proofs.Entries.{kind-at}
 
@@ -23,6 +23,21 @@ module _ (n : ℕ) (f : ℕ → List ℕ) where
   unfolding formRefusal refuseIf
   refuse-lengths a = rw a
 
-  pub lengths-pass : lengthsOk n f ≡ true → boxRefusal n f ≡ formRefusal n f
-  unfolding formRefusal refuseIf
-  lengths-pass a = rw a
+  module _ (a : lengthsOk n f ≡ true) where
+    pub refuse-box : boxOk n (f 0) ≡ false → 6 ≡ formRefusal n f
+    unfolding formRefusal refuseIf
+    refuse-box b = rw (a, b)
+
+    module _ (b : boxOk n (f 0) ≡ true) where
+      pub refuse-terms : allFrom (λ k. polynomialOk n (f k)) 1 (n - 1) ≡ false → 7 ≡ formRefusal n f
+      unfolding formRefusal refuseIf
+      refuse-terms t = rw (a, b, t)
+
+      module _ (t : allFrom (λ k. polynomialOk n (f k)) 1 (n - 1) ≡ true) where
+        pub refuse-start : placeOk n (decodePlace n (f n)) ≡ false → 8 ≡ formRefusal n f
+        unfolding formRefusal refuseIf
+        refuse-start p = rw (a, b, t, p)
+
+        pub no-refusal : placeOk n (decodePlace n (f n)) ≡ true → 0 ≡ formRefusal n f
+        unfolding formRefusal refuseIf
+        no-refusal p = rw (a, b, t, p)

@@ -1,6 +1,7 @@
 // Loose bodies by index, and their tests: what opening the job from them would refuse, before a byte of it is written. Bodies come as an array, body k
 // at index k: box, polynomials, start; those past index n are not read.
 
+use contents::boxes;
 use contents::entries;
 ghost use mathlib.Core.Path.{_≡_};
 ghost use mathlib.Core.Bool.{true};
@@ -10,7 +11,7 @@ ghost use Rattle.paper.specs.Job.{contentsEnd, allFrom, polynomialOk};
 ghost use Rattle.bits.specs.Axes.{Axes};
 ghost use Rattle.assembly.specs.Assembled.{handed, bodiesOf};
 ghost use Rattle.assembly.specs.LooseRefusal.{lengthsOk, formRefusal};
-ghost use Rattle.contents.specs.Parts.{bodyAt};
+ghost use Rattle.laying.specs.Laid.{bodyAt};
 ghost use Rattle.loose.specs.Arranged.{Arranged};
 
 // The bodies by index. The start stands at every index behind its own as well.
@@ -50,6 +51,21 @@ fn lengths_ok(n: usize, bodies: [&[u8]; 5]) -> bool
     true
 }
 
+// Every polynomial's terms are right and rise.
+fn polynomials_ok(n: usize, bodies: [&[u8]; 5]) -> bool
+    requires { ⌜ Axes n ⌝ }
+    ensures { λ r. ⌜ r ≡ allFrom (λ k. polynomialOk n (bodyAt (bodies .entry) k)) 1 (n - 1) ⌝ }
+{
+    let mut k = 1;
+    while k < n {
+        if !terms::polynomial_ok(n, bodies[k]) {
+            return false;
+        }
+        k += 1;
+    }
+    true
+}
+
 // The refusals 5 to 8: lengths, box, terms, start.
 pub fn form_refusal(n: usize, bodies: [&[u8]; 5]) -> u64
     requires { ⌜ Axes n ⌝ }
@@ -58,7 +74,16 @@ pub fn form_refusal(n: usize, bodies: [&[u8]; 5]) -> u64
     if !lengths_ok(n, bodies) {
         return 5;
     }
-    bodies::bodies_refusal(n, bodies)
+    if !boxes::box_ok(n, bodies[0]) {
+        return 6;
+    }
+    if !polynomials_ok(n, bodies) {
+        return 7;
+    }
+    if !places::place_ok(n, bodies[n]) {
+        return 8;
+    }
+    0
 }
 
 // The length of the job.

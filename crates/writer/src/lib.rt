@@ -5,8 +5,7 @@ ghost use mathlib.Core.Path.{_≡_};
 ghost use Prim.Native.Nat.{_+_, _≤_};
 ghost use lib.ListN.{length};
 ghost use Rattle.assembly.specs.Assembled.{bodiesOf, contentsOf, jobFrom};
-ghost use Rattle.contents.specs.Parts.{bodyAt};
-ghost use Rattle.laying.specs.Laid.{Laid};
+ghost use Rattle.laying.specs.Laid.{bodyAt, Laid};
 ghost use Rattle.writer.specs.Advanced.{advanced};
 
 pub struct Writer<'a> {

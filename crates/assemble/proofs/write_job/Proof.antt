@@ -14,7 +14,7 @@ use Rattle.bits.proofs.EachDimension.{dimension-axes}
 use Rattle.assembly.specs.Assembled.{Loose, handed, assembled}
 use Rattle.assembly.specs.LooseRefusal.{formRefusal}
 use Rattle.assembly.specs.Answers.{writtenAs}
-use Rattle.contents.specs.Parts.{bodyAt}
+use Rattle.laying.specs.Laid.{bodyAt}
 use Rattle.loose.specs.Arranged.{Arranged}
 use Rattle.assemble.proofs.Outcomes.{any-bias, right-lengths, length-is, job-long, no-dimension, wrong-form, no-room, laid}
 use Rattle.assemble.proofs.write_job.Statement.{statement}

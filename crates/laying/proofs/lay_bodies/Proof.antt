@@ -4,10 +4,9 @@ use native.Mathlib.Omega.{arith}
 use mathlib.Core.Path.{_≡_, ap}
 use lib.ListN.{length}
 use Rattle.assembly.specs.Assembled.{bodiesOf}
-use Rattle.contents.specs.Parts.{bodyAt}
-use Rattle.laying.specs.Laid.{Laid}
+use Rattle.laying.specs.Laid.{bodyAt, Laid}
 use Rattle.laying.proofs.Behind.{laid-none, laid-as, laid-long, body-more, body-room}
-use Rattle.contents.proofs.BodyRead.{body-read}
+use Rattle.laying.proofs.BodyRead.{body-read}
 use Rattle.laying.proofs.lay_bodies.Statement.{statement}
 use Rattle.laying.proofs.lay_bodies.Tie as tie
 

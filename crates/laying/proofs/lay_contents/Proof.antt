@@ -6,7 +6,7 @@ use denote.Ref.{now}
 use Rattle.paper.specs.Job.{contentsEnd}
 use Rattle.assembly.specs.Assembled.{bodiesOf, contentsOf}
 use Rattle.assembly.proofs.Lengths.{job-length}
-use Rattle.contents.specs.Parts.{bodyAt}
+use Rattle.laying.specs.Laid.{bodyAt}
 use Rattle.laying.proofs.Behind.{laid-behind, laid-long, four-laid}
 use borrow.Author.Needs.{needs}
 use Rattle.laying.proofs.lay_contents.Statement.{statement}

@@ -9,10 +9,9 @@ use Rattle.paper.specs.Bytes.{wordBytes}
 use Rattle.paper.specs.Job.{contentsEnd}
 use Rattle.assembly.specs.Assembled.{bodiesOf, entriesOf}
 use Rattle.assembly.proofs.Lengths.{entries-length}
-use Rattle.contents.specs.Parts.{bodyAt}
-use Rattle.laying.specs.Laid.{Laid}
+use Rattle.laying.specs.Laid.{bodyAt, Laid}
 use Rattle.laying.proofs.Behind.{laid-none, laid-as, laid-long, entry-more, offset-more, body-room}
-use Rattle.contents.proofs.BodyRead.{body-read}
+use Rattle.laying.proofs.BodyRead.{body-read}
 use Rattle.laying.proofs.lay_entries.Statement.{statement}
 use Rattle.laying.proofs.lay_entries.Tie as tie
 

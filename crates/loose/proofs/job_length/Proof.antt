@@ -11,9 +11,9 @@ use Rattle.bits.specs.Axes.{Axes}
 use Rattle.assembly.specs.Assembled.{bodiesOf}
 use Rattle.assembly.specs.LooseRefusal.{lengthsOk}
 use Rattle.assembly.proofs.Entries.{kind-small, kind-at}
-use Rattle.contents.specs.Parts.{bodyAt}
+use Rattle.laying.specs.Laid.{bodyAt}
 use Rattle.laying.proofs.Behind.{offset-more}
-use Rattle.contents.proofs.BodyRead.{body-read}
+use Rattle.laying.proofs.BodyRead.{body-read}
 use Rattle.loose.proofs.job_length.Statement.{statement}
 use Rattle.loose.proofs.job_length.Tie as tie
 

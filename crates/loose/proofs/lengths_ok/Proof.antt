@@ -6,8 +6,8 @@ use lib.ListN.{length}
 use Rattle.paper.specs.Job.{lengthOk, allFrom}
 use Rattle.paper.proofs.RangeSteps.{test-failed, test-passed, all-next, all-stops, all-ends}
 use Rattle.assembly.specs.LooseRefusal.{lengthsOk}
-use Rattle.contents.specs.Parts.{bodyAt}
-use Rattle.contents.proofs.BodyRead.{body-read}
+use Rattle.laying.specs.Laid.{bodyAt}
+use Rattle.laying.proofs.BodyRead.{body-read}
 use Rattle.loose.proofs.lengths_ok.Statement.{statement}
 use Rattle.loose.proofs.lengths_ok.Tie as tie
 

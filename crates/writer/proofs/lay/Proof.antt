@@ -43,8 +43,7 @@ use denote.Triple.Walked.{says, needs, Stays, stay-none, gave-slice, walkOf, goe
 use denote.Exit.{yes}
 use denote.Signature.{plain}
 use Rattle.assembly.specs.Assembled.{bodiesOf, contentsOf, jobFrom}
-use Rattle.contents.specs.Parts.{bodyAt}
-use Rattle.laying.specs.Laid.{Laid}
+use Rattle.laying.specs.Laid.{bodyAt, Laid}
 use Rattle.writer.specs.declared.Writer.{Writer}
 use Rattle.writer.specs.Advanced.{advanced}
 use Rattle.writer.proofs.Writer as T

@@ -41,8 +41,7 @@ use denote.Exit.{yes}
 use denote.Signature.{namedLft}
 use denote.Signature.Struct.{inStruct, makes}
 use Rattle.assembly.specs.Assembled.{bodiesOf}
-use Rattle.contents.specs.Parts.{bodyAt}
-use Rattle.laying.specs.Laid.{Laid}
+use Rattle.laying.specs.Laid.{bodyAt, Laid}
 use Rattle.writer.specs.declared.Writer.{Writer}
 use Rattle.writer.proofs.Writer as T
 use Rattle.writer.proofs.Writer.Laws as T′

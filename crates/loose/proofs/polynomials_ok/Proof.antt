@@ -1,14 +1,14 @@
--- `bodies::polynomials_ok` meets its contract. The invariant: the test of all polynomials is the test of those that are left.
+-- `loose::polynomials_ok` meets its contract. The invariant: the test of all polynomials is the test of those that are left.
 use mathlib.Core.Path.{_≡_, refl, ap, _∙_}
 use Prim.Native.Nat.{_-_}
 use native.Mathlib.Omega.{arith}
 use borrow.Author.Needs.{needs}
 use Rattle.paper.specs.Job.{allFrom, polynomialOk}
 use Rattle.paper.proofs.RangeSteps.{test-failed, test-passed, all-next, all-stops, all-ends}
-use Rattle.contents.specs.Parts.{bodyAt}
-use Rattle.contents.proofs.BodyRead.{body-read}
-use Rattle.bodies.proofs.polynomials_ok.Statement.{statement}
-use Rattle.bodies.proofs.polynomials_ok.Tie as tie
+use Rattle.laying.specs.Laid.{bodyAt}
+use Rattle.laying.proofs.BodyRead.{body-read}
+use Rattle.loose.proofs.polynomials_ok.Statement.{statement}
+use Rattle.loose.proofs.polynomials_ok.Tie as tie
 
 abbrev Inv-loop : tie.InvT-loop
 Inv-loop n t2 bodies k₀ k = allFrom (λ j. polynomialOk n (bodyAt t2 j)) 1 (n - 1) ≡ allFrom (λ j. polynomialOk n (bodyAt t2 j)) k (n - k)

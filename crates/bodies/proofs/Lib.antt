@@ -1,2 +1,0 @@
--- The refusals of the bodies' tests.
-pub mod Steps

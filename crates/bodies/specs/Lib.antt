@@ -1,2 +1,0 @@
--- Parts of the definition of Open's refusal.
-pub mod BodyTests
