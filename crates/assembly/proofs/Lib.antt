@@ -2,6 +2,7 @@
 pub mod Lengths
 pub mod Entries
 pub mod OpensTo
+pub mod AnyEntries
 pub mod RoundTrip
 pub mod Unread
 pub mod Short

@@ -1,6 +1,7 @@
 -- `laying::lay_contents` meets its contract: four bytes, then the entries.
 use Prim.Native.Nat.{_+_, _*_, _≤_}
 use native.Mathlib.Omega.{arith}
+use mathlib.Core.Path.{refl, _∙_}
 use lib.ListN.{length, length-set}
 use denote.Ref.{now}
 use Rattle.paper.specs.Job.{contentsEnd}
@@ -60,10 +61,7 @@ lay-entries-requires c κs =
     (c .before .before .pre .0, simp length-set (omega (arith, room)), simp length-set (omega (arith, room)))
 
 same-length : tie.Need-same-length
-same-length c =
-    let start = c .before .before .before .before .before in
-    let first = four-laid (now (start .args .buffer)) (start .args .at) 1 (start .args .n) (start .args .n + 1) (start .args .bias) in
-    laid-long (laid-behind first (c .before .before .lay-entries .ensures))
+same-length c = laid-long (c .before .before .lay-entries .ensures) ∙ simp length-set refl
 
 returns : tie.Need-returns
 unfolding contentsOf
