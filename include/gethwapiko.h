@@ -21,6 +21,9 @@
  *   18  for the order of cutting alone, behind 11: the place's trace is no loop, or its loop already came
  * and for writing a job alone, behind 8:
  *   16  the buffer is shorter than the job
+ * and for a formula alone, behind 3:
+ *   14  the text is outside the language
+ *   15  parentheses nest deeper than 16, an inner result breaks a limit of a term, or the result is zero
  * and by the small bench cutter's two functions alone, tested after 8 and before 9:
  *   17  a box end outside -64 to 64, or a polynomial with over 16 terms
  *
@@ -112,6 +115,12 @@ typedef struct {
 
 typedef struct {
     uint64_t refusal;
+    uint64_t count;     /* the terms, 1 to 70 */
+    uint8_t bytes[560]; /* the terms, 8 bytes each as in a job; bytes behind them are 0 */
+} FormulaAnswer;
+
+typedef struct {
+    uint64_t refusal;
     uint64_t length; /* of the job written, from the buffer's front on; never 0 where there is no refusal */
 } WriteAnswer;
 
@@ -172,6 +181,15 @@ SeamsAnswer gethwapiko_seams(const uint8_t *job, size_t job_length, uint8_t *buf
  * stands. Refusals 3 (another dimension), 13 (a length that is no multiple of 3n), then position by position 13, 9, 10, 11, 18, all of one position
  * before the next. Nothing is written. Of k loops the earlier of each pair is walked once: k * k / 2 walks. */
 OrderAnswer gethwapiko_cut_order(const uint8_t *job, size_t job_length, const uint8_t *places, size_t places_length);
+
+/* Reading a formula: the term list of the polynomial that a text means in dimension n, handed back whole. The text has whole numbers of 1 to 7 digits,
+ * the letters x, y, z, w for axes 1 to 4 up to n, + - * ^ and parentheses, and no blanks. A sum is an optional minus, which takes the first product
+ * only, and products joined by + or -; a product is powers joined by *; a power is an atom with an optional ^ and one digit 0 to 4; an atom is a number,
+ * a letter or a sum in parentheses. -x^2 is minus the square, 2*3^2 is 18, power 0 is 1, of zero too. Operations of one rank go from left to right, a
+ * power multiplies by its atom once at a time, and the polynomial behind each operation stands on the limits of a term: coefficients at most 1,048,576
+ * in size, degree at most 4. The terms are right for a polynomial of gethwapiko_write_job in dimension n: 8 * count bytes.
+ * Refusals 3, 14, 15. Nothing is written. */
+FormulaAnswer gethwapiko_formula(uint64_t n, const uint8_t *text, size_t text_length);
 
 /* No job is longer: 24 bytes of contents, 16 of box, three polynomials of 560, 12 of start. */
 enum { GETHWAPIKO_LONGEST_JOB = 1732 };

@@ -2,6 +2,7 @@
 // pointer and a length. Refusal 0 is none; beside a refusal, and where an answer does not use a field, the field is 0.
 
 use bits::read;
+use formula::FormulaAnswer;
 use numbers::BodyAnswer;
 use numbers::GroundAnswer;
 use numbers::JudgeAnswer;
@@ -29,6 +30,8 @@ ghost use Rattle.seamlist.specs.JobSeams.{seamed, extentAndCount, seamsAfter};
 ghost use Rattle.nesting.specs.CutOrder.{ordered};
 ghost use Rattle.assembly.specs.Assembled.{handed};
 ghost use Rattle.assembly.specs.Written.{written, bufferWritten};
+ghost use Rattle.formula.specs.Read.{formulaTerms, handedBack};
+ghost use Rattle.formula.specs.Answers.{handedAs};
 ghost use Rattle.numbers.specs.Numbers.{traceNumbers, seamsNumbers, orderNumbers, writeNumbers, isSet, penNumbers, sumNumbers};
 
 // Open.
@@ -145,6 +148,14 @@ pub extern "C" fn gethwapiko_write_job<'a>(
         start,
         buffer,
     ))
+}
+
+// Reading a formula.
+#[no_mangle]
+pub extern "C" fn gethwapiko_formula(n: u64, text: &[u8]) -> FormulaAnswer
+    ensures { λ r. ⌜ handedAs r ≡ handedBack (formulaTerms n (now (text .entry))) ⌝ }
+{
+    termlist::read_formula(n as usize, text)
 }
 
 // The small bench cutter's Open.

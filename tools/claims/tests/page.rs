@@ -89,7 +89,7 @@ fn every_number_has_a_row() {
         }
     }
     // The sentences of a request are lettered from a on.
-    let requests = [("R2", 'g'), ("R3", 'c'), ("R4", 'g'), ("R5", 'd'), ("R6", 'c'), ("R7", 'e'), ("R8", 'd'), ("R9", 'e'), ("R10", 'd'), ("R12", 'f'), ("R14", 'd')];
+    let requests = [("R1", 'h'), ("R2", 'g'), ("R3", 'c'), ("R4", 'g'), ("R5", 'd'), ("R6", 'c'), ("R7", 'e'), ("R8", 'd'), ("R9", 'e'), ("R10", 'd'), ("R12", 'f'), ("R14", 'd')];
     for (request, last) in requests {
         for letter in 'a'..=last {
             let number = format!("{request}{letter}");

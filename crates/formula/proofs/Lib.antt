@@ -1,0 +1,22 @@
+-- Laws of the definitions in specs/.
+pub mod Cases
+pub mod Sizes
+pub mod Slots
+pub mod Weighted
+pub mod PolynomialValues
+pub mod Leading
+pub mod Degree
+pub mod Letters
+pub mod Tokens
+pub mod Nesting
+pub mod Complete
+pub mod Sound
+pub mod Exactly
+pub mod Meant
+pub mod TermBytes
+pub mod TermRead
+pub mod TermSum
+pub mod UpperLetters
+pub mod TermsOk
+pub mod FormulaDemand
+pub mod FormulaOpens

@@ -1,0 +1,2 @@
+-- What the contracts of the monomials say, beside the definitions of the crate formula.
+pub mod Weight

@@ -1,0 +1,2 @@
+-- What the contracts of the four readers say.
+pub mod Ahead

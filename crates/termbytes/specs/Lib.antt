@@ -1,0 +1,2 @@
+-- What the functions speak of.
+pub mod Terms

@@ -1,0 +1,2 @@
+-- What is answered at each return of the operation.
+pub mod Answered
