@@ -1,7 +1,6 @@
 // Writing jobs: document 02, request 2.2. The loose bodies are tested first; then the writer lays contents and bodies in the caller's buffer.
 
 use assembly::JobWritten;
-use contents::limits;
 ghost use mathlib.Core.Path.{_≡_};
 ghost use Rattle.assembly.specs.Assembled.{handed};
 ghost use Rattle.assembly.specs.Written.{written, bufferWritten};

@@ -13,7 +13,7 @@ use Rattle.paper.specs.Job.{dimension, body, lowEnd, highEnd, allFrom, boxOk}
 use Rattle.paper.specs.Operations.{polynomialTerms}
 use Rattle.paper.proofs.Tests.{all-same}
 use Rattle.paper.proofs.Terms.{between-size, box-axis}
-use Rattle.contents.specs.Between.{axisBetween, boxBetween}
+use Rattle.boxes.specs.Between.{axisBetween, boxBetween}
 use Rattle.job.specs.OpenJob.{JobOf}
 use Rattle.job.proofs.OpenJob.{job-opens}
 use Rattle.small.specs.Small.{smallCoordinateLimit, smallTermLimit, endSmall, axisSmall, boxSmall, termsSmall, jobSmall}

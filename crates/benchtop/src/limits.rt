@@ -1,6 +1,5 @@
 // The limits of the small bench cutter's controller, tested in a job that has opened.
 
-use contents::boxes;
 ghost use mathlib.Core.Path.{_≡_};
 ghost use Prim.Native.Nat.{_-_};
 ghost use Rattle.paper.specs.Job.{allFrom};

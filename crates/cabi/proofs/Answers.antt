@@ -14,7 +14,9 @@ use Rattle.curves.specs.Step.{Stop}
 use Rattle.paper.specs.Operations.{Answer}
 use Rattle.paper.specs.Answers.{paddedPoint, paddedStep}
 use Rattle.paper.specs.RunningSum.{runningSummed}
-use Rattle.numbers.specs.Numbers.{pointNumbers, stepNumbers, sumNumbers}
+use Rattle.jobnumbers.specs.Numbers.{sumNumbers}
+use Rattle.pointnumbers.specs.Numbers.{pointNumbers}
+use Rattle.walknumbers.specs.Numbers.{stepNumbers}
 use Rattle.cabi.proofs.Padding.{point-unpadded, step-unpadded}
 
 pub point-as : (a b : Answer (List ℤ)) → b ≡ paddedPoint a → pointNumbers b ≡ pointNumbers a

@@ -12,7 +12,8 @@ use Rattle.curves.specs.Walk.{Next, stop, go}
 use Rattle.curves.specs.Step.{Stop}
 use Rattle.paper.specs.Operations.{Answer, refused, answered}
 use Rattle.paper.specs.Answers.{padded, paddedPoint, paddedPlace, paddedNext, paddedStep}
-use Rattle.numbers.specs.Numbers.{pointNumbers, stepNumbers}
+use Rattle.pointnumbers.specs.Numbers.{pointNumbers}
+use Rattle.walknumbers.specs.Numbers.{stepNumbers}
 
 pub getD-padded : {A : Type 0} (d : A) (k i : ℕ) (v : List A) → i < k → getD (padded d k v) i d ≡ getD v i d
 unfolding padded

@@ -1,21 +1,20 @@
 // The C interface: each function hands on what an operation of document 01 or of a request answers, as a struct of numbers. A slice is a
 // pointer and a length. Refusal 0 is none; beside a refusal, and where an answer does not use a field, the field is 0.
 
-use bits::read;
 use formula::FormulaAnswer;
-use numbers::BodyAnswer;
-use numbers::GroundAnswer;
-use numbers::JudgeAnswer;
-use numbers::OpenAnswer;
-use numbers::OrderAnswer;
-use numbers::PenAnswer;
-use numbers::PointAnswer;
-use numbers::SeamsAnswer;
-use numbers::StepAnswer;
-use numbers::SumAnswer;
-use numbers::TraceAnswer;
-use numbers::WriteAnswer;
+use jobnumbers::BodyAnswer;
+use jobnumbers::OpenAnswer;
+use jobnumbers::SumAnswer;
+use jobnumbers::WriteAnswer;
+use judgenumbers::GroundAnswer;
+use judgenumbers::JudgeAnswer;
 use places::Vertex;
+use pointnumbers::PenAnswer;
+use pointnumbers::PointAnswer;
+use seamnumbers::OrderAnswer;
+use seamnumbers::SeamsAnswer;
+use walknumbers::StepAnswer;
+use walknumbers::TraceAnswer;
 ghost use mathlib.Core.Path.{_≡_};
 ghost use mathlib.Core.List.{[], _∷_};
 ghost use Prim.Native.Nat.{_+_, _≤_};
@@ -25,21 +24,24 @@ ghost use Rattle.paper.specs.Pen.{penned};
 ghost use Rattle.paper.specs.RunningSum.{runningSummed};
 ghost use Rattle.grounds.specs.Judged.{judgedBy};
 ghost use Rattle.small.specs.Small.{smallOpened, smallTraced};
-ghost use Rattle.numbers.specs.Numbers.{openNumbers, bodyEntry, bodyNumbers, judgeNumbers, groundNumbers, pointNumbers, stepNumbers};
+ghost use Rattle.jobnumbers.specs.Numbers.{openNumbers, bodyEntry, bodyNumbers, writeNumbers, sumNumbers};
+ghost use Rattle.judgenumbers.specs.Numbers.{judgeNumbers, groundNumbers};
+ghost use Rattle.pointnumbers.specs.Numbers.{pointNumbers, isSet, penNumbers};
+ghost use Rattle.walknumbers.specs.Numbers.{stepNumbers, traceNumbers};
 ghost use Rattle.seamlist.specs.JobSeams.{seamed, extentAndCount, seamsAfter};
 ghost use Rattle.nesting.specs.CutOrder.{ordered};
 ghost use Rattle.assembly.specs.Assembled.{handed};
 ghost use Rattle.assembly.specs.Written.{written, bufferWritten};
 ghost use Rattle.formula.specs.Read.{formulaTerms, handedBack};
 ghost use Rattle.formula.specs.Answers.{handedAs};
-ghost use Rattle.numbers.specs.Numbers.{traceNumbers, seamsNumbers, orderNumbers, writeNumbers, isSet, penNumbers, sumNumbers};
+ghost use Rattle.seamnumbers.specs.Numbers.{seamsNumbers, orderNumbers};
 
 // Open.
 #[no_mangle]
 pub extern "C" fn gethwapiko_open(job: &[u8]) -> OpenAnswer
     ensures { λ r. ⌜ r ≡ openNumbers (opened (now (job .entry))) ⌝ }
 {
-    numbers::open_numbers(job::open(job))
+    jobnumbers::open_numbers(job::open(job))
 }
 
 // Body: where in the job the body lies; it is never outside the job.
@@ -49,20 +51,7 @@ pub extern "C" fn gethwapiko_body(job: &[u8], index: u64) -> BodyAnswer
     ensures part { λ r. ⌜ take (r .length) (drop (r .offset) (now (job .entry))) ≡ bodyPart (now (job .entry)) index ⌝ }
     ensures inside { λ r. ⌜ r .offset + r .length ≤ length (now (job .entry)) ⌝ }
 {
-    let k = index as usize;
-    let refusal = job::body_refusal(job, k);
-    if refusal != 0 {
-        return BodyAnswer {
-            refusal,
-            offset: 0,
-            length: 0,
-        };
-    }
-    BodyAnswer {
-        refusal: 0,
-        offset: read::word(job, 4 * k + 4),
-        length: read::word(job, 4 * k + 6),
-    }
+    bodyentry::body_entry(job, index)
 }
 
 // Judge.
@@ -70,7 +59,7 @@ pub extern "C" fn gethwapiko_body(job: &[u8], index: u64) -> BodyAnswer
 pub extern "C" fn gethwapiko_judge(job: &[u8], place: &[u8]) -> JudgeAnswer
     ensures { λ r. ⌜ r ≡ judgeNumbers (judged (now (job .entry)) (now (place .entry))) ⌝ }
 {
-    numbers::judge_numbers(judge::judge(job, place))
+    judgenumbers::judge_numbers(judge::judge(job, place))
 }
 
 // Judge with its ground.
@@ -78,7 +67,7 @@ pub extern "C" fn gethwapiko_judge(job: &[u8], place: &[u8]) -> JudgeAnswer
 pub extern "C" fn gethwapiko_judge_ground(job: &[u8], place: &[u8]) -> GroundAnswer
     ensures { λ r. ⌜ r ≡ groundNumbers (judgedBy (now (job .entry)) (now (place .entry))) ⌝ }
 {
-    numbers::ground_numbers(deciding::judge_ground(job, place))
+    judgenumbers::ground_numbers(deciding::judge_ground(job, place))
 }
 
 // Point.
@@ -86,7 +75,7 @@ pub extern "C" fn gethwapiko_judge_ground(job: &[u8], place: &[u8]) -> GroundAns
 pub extern "C" fn gethwapiko_point(job: &[u8], place: &[u8]) -> PointAnswer
     ensures { λ r. ⌜ r ≡ pointNumbers (pointed (now (job .entry)) (now (place .entry))) ⌝ }
 {
-    numbers::point_numbers(judge::point(job, place))
+    pointnumbers::point_numbers(judge::point(job, place))
 }
 
 // Step.
@@ -94,7 +83,7 @@ pub extern "C" fn gethwapiko_point(job: &[u8], place: &[u8]) -> PointAnswer
 pub extern "C" fn gethwapiko_step(job: &[u8], place: &[u8]) -> StepAnswer
     ensures { λ r. ⌜ r ≡ stepNumbers (stepped (now (job .entry)) (now (place .entry))) ⌝ }
 {
-    numbers::step_numbers(step::step(job, place))
+    walknumbers::step_numbers(step::step(job, place))
 }
 
 // Trace: the places are written to the buffer from its front on; a refusal touches nothing.
@@ -103,7 +92,7 @@ pub extern "C" fn gethwapiko_trace(job: &[u8], buffer: &mut [u8]) -> TraceAnswer
     ensures answer { λ r. ⌜ r ≡ traceNumbers (verdictAndCount (traced (now (job .entry)) (spaceOf (now (job .entry)) (now (buffer .entry))))) ⌝ }
     ensures written { λ r. ⌜ now (buffer .exit) ≡ bufferAfter (traced (now (job .entry)) (spaceOf (now (job .entry)) (now (buffer .entry)))) (now (buffer .entry)) ⌝ }
 {
-    numbers::trace_numbers(trace::trace(job, buffer))
+    walknumbers::trace_numbers(trace::trace(job, buffer))
 }
 
 // Every seam in the box: one place for each is written to the buffer from its front on; a refusal touches nothing.
@@ -112,7 +101,7 @@ pub extern "C" fn gethwapiko_seams(job: &[u8], buffer: &mut [u8]) -> SeamsAnswer
     ensures answer { λ r. ⌜ r ≡ seamsNumbers (extentAndCount (seamed (now (job .entry)) (spaceOf (now (job .entry)) (now (buffer .entry))))) ⌝ }
     ensures written { λ r. ⌜ now (buffer .exit) ≡ seamsAfter (seamed (now (job .entry)) (spaceOf (now (job .entry)) (now (buffer .entry)))) (now (buffer .entry)) ⌝ }
 {
-    numbers::seams_numbers(scan::seams(job, buffer))
+    seamnumbers::seams_numbers(scan::seams(job, buffer))
 }
 
 // The order of cutting: whether inner loops come before outer ones.
@@ -120,7 +109,7 @@ pub extern "C" fn gethwapiko_seams(job: &[u8], buffer: &mut [u8]) -> SeamsAnswer
 pub extern "C" fn gethwapiko_cut_order(job: &[u8], places: &[u8]) -> OrderAnswer
     ensures { λ r. ⌜ r ≡ orderNumbers (ordered (now (job .entry)) (now (places .entry))) ⌝ }
 {
-    numbers::order_numbers(cutorder::cut_order(job, places))
+    seamnumbers::order_numbers(cutorder::cut_order(job, places))
 }
 
 // Writing a job from loose bodies: it stands in the buffer from its front on; a refusal touches nothing.
@@ -138,7 +127,7 @@ pub extern "C" fn gethwapiko_write_job<'a>(
     ensures answer { λ r. ⌜ r ≡ writeNumbers (written (handed n bias (now (bounds .entry)) (now (polynomial1 .entry)) (now (polynomial2 .entry)) (now (polynomial3 .entry)) (now (start .entry))) (now (buffer .entry))) ⌝ }
     ensures written { λ r. ⌜ now (buffer .exit) ≡ bufferWritten (handed n bias (now (bounds .entry)) (now (polynomial1 .entry)) (now (polynomial2 .entry)) (now (polynomial3 .entry)) (now (start .entry))) (now (buffer .entry)) ⌝ }
 {
-    numbers::write_numbers(assemble::write_job(
+    jobnumbers::write_numbers(assemble::write_job(
         n as usize,
         bias,
         bounds,
@@ -163,7 +152,7 @@ pub extern "C" fn gethwapiko_formula(n: u64, text: &[u8]) -> FormulaAnswer
 pub extern "C" fn gethwapiko_small_open(job: &[u8]) -> OpenAnswer
     ensures { λ r. ⌜ r ≡ openNumbers (smallOpened (now (job .entry))) ⌝ }
 {
-    numbers::open_numbers(benchtop::open(job))
+    jobnumbers::open_numbers(benchtop::open(job))
 }
 
 // The small bench cutter's Trace; a refusal touches nothing.
@@ -172,7 +161,7 @@ pub extern "C" fn gethwapiko_small_trace(job: &[u8], buffer: &mut [u8]) -> Trace
     ensures answer { λ r. ⌜ r ≡ traceNumbers (verdictAndCount (smallTraced (now (job .entry)) (spaceOf (now (job .entry)) (now (buffer .entry))))) ⌝ }
     ensures written { λ r. ⌜ now (buffer .exit) ≡ bufferAfter (smallTraced (now (job .entry)) (spaceOf (now (job .entry)) (now (buffer .entry)))) (now (buffer .entry)) ⌝ }
 {
-    numbers::trace_numbers(benchtop::trace(job, buffer))
+    walknumbers::trace_numbers(benchtop::trace(job, buffer))
 }
 
 // Pen: move k of a list of places; any number but 0 marks the list as closed.
@@ -180,7 +169,7 @@ pub extern "C" fn gethwapiko_small_trace(job: &[u8], buffer: &mut [u8]) -> Trace
 pub extern "C" fn gethwapiko_pen(job: &[u8], places: &[u8], closed: u8, k: u64) -> PenAnswer
     ensures { λ r. ⌜ r ≡ penNumbers (penned (now (job .entry)) (now (places .entry)) (isSet closed) k) ⌝ }
 {
-    numbers::pen_numbers(pen::pen(job, places, closed != 0, k as usize))
+    pointnumbers::pen_numbers(pen::pen(job, places, closed != 0, k as usize))
 }
 
 // The running sum of a polynomial, numbered from 0, at the vertex x y z w, from its last term to its first, after so many terms.
@@ -197,5 +186,5 @@ pub extern "C" fn gethwapiko_running_sum(
     ensures { λ r. ⌜ r ≡ sumNumbers (runningSummed (now (job .entry)) polynomial (x ∷ y ∷ z ∷ w ∷ []) terms) ⌝ }
 {
     let v = Vertex { x, y, z, w };
-    numbers::sum_numbers(sums::running_sum(job, polynomial as usize, v, terms as usize))
+    jobnumbers::sum_numbers(sums::running_sum(job, polynomial as usize, v, terms as usize))
 }

@@ -27,9 +27,9 @@ use Rattle.places.specs.Held.{vertexAs, facetAs, placeAs}
 use Rattle.places.specs.declared.Vertex.{Vertex}
 use Rattle.places.specs.declared.HeldPlace.{HeldPlace}
 use Rattle.job.proofs.OpenJob.{job-axes}
-use Rattle.facets.specs.Cells.{columnAt, simplexColumns, facetColumns}
-use Rattle.columns.specs.Found.{ValuesPut}
-use Rattle.orders.specs.Table.{orderAt}
+use Rattle.determinants.specs.Cells.{columnAt, simplexColumns, facetColumns}
+use Rattle.field.specs.Put.{ValuesPut}
+use Rattle.table.specs.Table.{orderAt}
 use Rattle.sides.specs.Corners.{cornerUnder, CornerIs}
 use Rattle.sides.proofs.Anywhere.{place-anywhere, pivot-order, corner-low}
 use Rattle.simplices.specs.Search.{Found}

@@ -16,7 +16,7 @@ use Rattle.exact.specs.Crossed.{crossed}
 use Rattle.exact.specs.Compared.{signOf}
 use Rattle.exact.proofs.Bits.{back, holds-call}
 use Rattle.exact.proofs.CrossedTest.{crossed→signs}
-use Rattle.facets.specs.Entries.{determinantLimit}
+use Rattle.determinants.specs.Entries.{determinantLimit}
 
 sign-tested : (x : ℤ) → sign x ≢ nought → sign x ≡ signOf (ltZ (pos 0) x)
 unfolding sign signOf

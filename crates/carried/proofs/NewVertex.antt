@@ -12,9 +12,9 @@ use Rattle.curves.proofs.Vertices.{plus-zero, vertices-masks}
 use Rattle.curves.proofs.IncidenceOk.{length-masks}
 use Rattle.places.specs.declared.Vertex.{Vertex}
 use Rattle.places.specs.Held.{vertexAs}
-use Rattle.values.specs.Moves.{Shifted}
-use Rattle.orders.specs.Table.{InTable, orderAt, vertexMask}
-use Rattle.orders.proofs.Rows.{row-order, row-length}
+use Rattle.lattice.specs.Moves.{Shifted}
+use Rattle.table.specs.Table.{InTable, orderAt, vertexMask}
+use Rattle.table.proofs.TableRows.{row-order, row-length}
 use Rattle.carried.specs.Carries.{simplexAt, newVertexAt}
 
 -- the member of a mapped list

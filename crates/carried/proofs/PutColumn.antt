@@ -13,8 +13,8 @@ use Rattle.exact.proofs.CountFrom.{map-countFrom-ext}
 use Rattle.curves.specs.Grid.{Vertex}
 use Rattle.curves.specs.Step.{column}
 use Rattle.paper.specs.Values.{fieldOf}
-use Rattle.facets.specs.Cells.{columnAt, simplexColumns}
-use Rattle.columns.specs.Found.{ValuesPut}
+use Rattle.determinants.specs.Cells.{columnAt, simplexColumns}
+use Rattle.field.specs.Put.{ValuesPut}
 
 -- a list of values that differ from others at most at i is the others' list with the one put at i
 set-map :

@@ -17,8 +17,8 @@ use Rattle.paper.specs.Operations.{stepIn}
 use Rattle.places.specs.Held.{vertexAs, placeAs}
 use Rattle.places.specs.declared.Vertex.{Vertex}
 use Rattle.places.specs.declared.HeldPlace.{HeldPlace}
-use Rattle.facets.specs.Cells.{Cells, simplexColumns, facetColumns}
-use Rattle.orders.specs.Table.{orderAt, NeighbourRow}
+use Rattle.determinants.specs.Cells.{Cells, simplexColumns, facetColumns}
+use Rattle.table.specs.Table.{orderAt, NeighbourRow}
 use Rattle.sides.specs.Corners.{PlaceIs}
 use Rattle.simplices.specs.Search.{Found}
 use Rattle.moves.specs.Columns.{newIndex, ColumnsMoved}

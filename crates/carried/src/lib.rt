@@ -8,19 +8,14 @@ ghost use Rattle.exact.specs.Crossed.{crossed};
 ghost use Rattle.curves.specs.Grid.{placeOk};
 ghost use Rattle.paper.specs.Limits.{dimensionOk};
 ghost use Rattle.places.specs.Held.{vertexAs, placeAs, VertexSize};
-ghost use Rattle.values.specs.Moves.{moveLimit};
-ghost use Rattle.facets.specs.Cells.{Cells, facetColumns};
-ghost use Rattle.orders.specs.Table.{InTable, MasksAre};
+ghost use Rattle.lattice.specs.Moves.{moveLimit};
+ghost use Rattle.determinants.specs.Cells.{Cells, facetColumns};
+ghost use Rattle.table.specs.Table.{InTable, MasksAre};
 ghost use Rattle.carried.specs.Carries.{newVertexAt, Enters, Beyond, Carries, AheadIs};
-use columns::field;
-use facets::determinants;
-use orders::neighbour;
-use orders::table;
 use places::HeldPlace;
 use places::Vertex;
 use simplices::corners;
 use simplices::search;
-use values::lattice;
 
 // A place with the simplex on its side: the row of its order, the vertex that the facet leaves out, and whether the determinant of the
 // facet is above 0.

@@ -23,10 +23,10 @@ use Rattle.bits.proofs.EachDimension.{each-axes}
 use Rattle.places.specs.declared.Vertex.{Vertex}
 use Rattle.places.specs.declared.HeldPlace.{HeldPlace}
 use Rattle.places.specs.Held.{masksAs, facetAs}
-use Rattle.facets.specs.Cells.{columnAt, simplexColumns, facetColumns, Cells}
+use Rattle.determinants.specs.Cells.{columnAt, simplexColumns, facetColumns, Cells}
 use Rattle.columns.specs.Vertices.{maskAt, vertexAt, vertexList, simplexVertices}
 use Rattle.columns.specs.Found.{stopNumber, ColumnsFound, FacetFound, SimplexFound}
-use Rattle.columns.proofs.Counted.{remove-last}
+use Rattle.field.proofs.Counted.{remove-last}
 
 -- ---- the cells before any value is put in
 

@@ -13,9 +13,10 @@ use Rattle.curves.specs.Grid.{Vertex}
 use Rattle.curves.specs.Step.{column, columns, every}
 use Rattle.paper.specs.Values.{fieldOf}
 use Rattle.paper.proofs.Tests.{every-all}
-use Rattle.facets.specs.Cells.{columnAt, Cells}
-use Rattle.columns.specs.Found.{ValuesPut, ColumnsPut, stopNumber, ColumnsFound}
-use Rattle.columns.proofs.Counted.{every-fails, same-each, map-map}
+use Rattle.determinants.specs.Cells.{columnAt, Cells}
+use Rattle.field.specs.Put.{ValuesPut}
+use Rattle.columns.specs.Found.{ColumnsPut, stopNumber, ColumnsFound}
+use Rattle.field.proofs.Counted.{every-fails, same-each, map-map}
 
 -- a test of a vertex, and what is put in for it, under another name for the vertex
 pub at-vertex : (s : List ℕ) {u v : Vertex} {r b : Bool} → u ≡ v → r ≡ fieldOf s .inBox u → r ≡ b → fieldOf s .inBox v ≡ b

@@ -1,15 +1,12 @@
 // The columns of facets and simplices: the values at their vertices, document 01, section "Crossed".
 ghost use Rattle.places.specs.Held.{facetAs, VertexSize};
 ghost use Rattle.job.specs.OpenJob.{JobOf};
-ghost use Rattle.facets.specs.Cells.{Cells};
-ghost use Rattle.values.specs.Moves.{moveLimit};
+ghost use Rattle.determinants.specs.Cells.{Cells};
+ghost use Rattle.lattice.specs.Moves.{moveLimit};
 ghost use Rattle.columns.specs.Vertices.{simplexVertices};
 ghost use Rattle.columns.specs.Found.{FacetFound, SimplexFound};
 use places::HeldPlace;
 use places::Vertex;
-
-// A vertex of a job: in the box, and its values.
-pub mod field;
 
 // The vertices that a base and masks name, and their columns.
 pub mod masks;

@@ -6,13 +6,11 @@ ghost use Rattle.curves.specs.Step.{every};
 ghost use Rattle.paper.specs.Values.{fieldOf};
 ghost use Rattle.places.specs.Held.{vertexAs, VertexSize};
 ghost use Rattle.job.specs.OpenJob.{JobOf};
-ghost use Rattle.facets.specs.Cells.{Cells};
-ghost use Rattle.values.specs.Moves.{moveLimit};
+ghost use Rattle.determinants.specs.Cells.{Cells};
+ghost use Rattle.lattice.specs.Moves.{moveLimit};
 ghost use Rattle.columns.specs.Vertices.{maskAt, vertexAt, vertexList};
 ghost use Rattle.columns.specs.Found.{ColumnsPut, ColumnsFound};
-use crate::field;
 use places::Vertex;
-use values::lattice;
 
 // The mask of vertex k: 0 for the base, then m1 to m4.
 pub fn mask_at(m1: u64, m2: u64, m3: u64, m4: u64, k: usize) -> u64

@@ -22,8 +22,8 @@ use Rattle.exact.proofs.SizeLaws.{size-pos, size-neg, size-weaken, size-fits-64
 use Rattle.exact.proofs.Cofactor.{coefficient-minor, alternate-even, alternate-odd}
 use Rattle.exact.proofs.PairSigns.{position-later}
 use Rattle.exact.proofs.ExitCompared.{skip-next, cond-holds}
-use Rattle.facets.specs.Cells.{Cells, simplexColumns, facetColumns}
-use Rattle.facets.specs.Entries.{coefficientLimit}
+use Rattle.determinants.specs.Cells.{Cells, simplexColumns, facetColumns}
+use Rattle.determinants.specs.Entries.{coefficientLimit}
 use Rattle.facets.specs.Signs.{signNumber}
 use Rattle.facets.proofs.SignNumber.{number-above, number-below, number-nought, number-zero, zero-number}
 use Rattle.facets.proofs.CrossedWalk.{leftAt, left-begin, left-passed, left-found, left-none}

@@ -8,10 +8,9 @@ ghost use Rattle.exact.specs.Int.{0ℤ};
 ghost use Rattle.exact.specs.Size.{Is};
 ghost use Rattle.exact.specs.Crossed.{coefficient, remove};
 ghost use Rattle.exact.specs.Compared.{above, pairSign, stays, comparedExit};
-ghost use Rattle.facets.specs.Cells.{Cells, simplexColumns, facetColumns};
-ghost use Rattle.facets.specs.Entries.{coefficientLimit};
+ghost use Rattle.determinants.specs.Cells.{Cells, simplexColumns, facetColumns};
+ghost use Rattle.determinants.specs.Entries.{coefficientLimit};
 use bits::index::skip;
-use facets::determinants;
 
 // The coefficient of power j at a vertex that stands before those of the facet without q, of which vertex i is left out.
 fn pair_coefficient(n: usize, cells: &[i64; 15], q: usize, i: usize, j: usize) -> i64

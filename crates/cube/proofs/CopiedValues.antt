@@ -17,7 +17,7 @@ use Rattle.exact.proofs.CountFrom.{map-countFrom-ext}
 use Rattle.paper.specs.Limits.{readableLimit}
 use Rattle.bits.specs.Axes.{Axes}
 use Rattle.bits.proofs.EachDimension.{each-axes}
-use Rattle.facets.specs.Cells.{columnAt, entryLimit}
+use Rattle.determinants.specs.Cells.{columnAt, entryLimit}
 use Rattle.cube.specs.Cube.{Within, ValuesCopied}
 
 pub entry-word : (n : ℕ) → Axes n → entryLimit n ≤ 2 ^ 63 - 1

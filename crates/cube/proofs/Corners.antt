@@ -17,8 +17,8 @@ use Rattle.curves.specs.Step.{column}
 use Rattle.paper.specs.Values.{fieldOf}
 use Rattle.bits.specs.Axes.{Axes}
 use Rattle.bits.proofs.EachDimension.{each-axes}
-use Rattle.facets.specs.Cells.{columnAt, Cells}
-use Rattle.columns.specs.Found.{ValuesPut}
+use Rattle.determinants.specs.Cells.{columnAt, Cells}
+use Rattle.field.specs.Put.{ValuesPut}
 use Rattle.columns.proofs.FacetColumns.{nought}
 use Rattle.cube.specs.Cube.{Within, ValuesCopied, knownAt, Corner, CornerPut, Cube}
 

@@ -19,9 +19,9 @@ use Rattle.paper.specs.Values.{fieldOf}
 use Rattle.bits.specs.Axes.{Axes}
 use Rattle.places.specs.declared.HeldPlace.{HeldPlace}
 use Rattle.places.specs.Held.{vertexAs, facetAs}
-use Rattle.facets.specs.Cells.{columnAt}
+use Rattle.determinants.specs.Cells.{columnAt}
 use Rattle.columns.specs.Vertices.{vertexAt, vertexList}
-use Rattle.columns.proofs.Counted.{every-at, map-map}
+use Rattle.field.proofs.Counted.{every-at, map-map}
 use Rattle.columns.proofs.FacetColumns.{facet-list}
 use Rattle.cube.specs.Cube.{knownAt, Cube, MasksUnder, valueAt, OneSided}
 use Rattle.cube.proofs.TakenFacets.{maskOf, mask-under, vertex, known-is, all-known}

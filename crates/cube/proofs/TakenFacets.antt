@@ -19,9 +19,9 @@ use Rattle.bits.specs.Axes.{Axes}
 use Rattle.bits.proofs.EachDimension.{each-axes}
 use Rattle.places.specs.declared.HeldPlace.{HeldPlace}
 use Rattle.places.specs.Held.{vertexAs, facetAs}
-use Rattle.facets.specs.Cells.{columnAt, facetColumns, Cells}
+use Rattle.determinants.specs.Cells.{columnAt, facetColumns, Cells}
 use Rattle.columns.specs.Vertices.{maskAt, vertexAt, vertexList}
-use Rattle.columns.proofs.Counted.{every-fails, same-each, map-map}
+use Rattle.field.proofs.Counted.{every-fails, same-each, map-map}
 use Rattle.columns.proofs.FacetColumns.{facet-columns, facet-list}
 use Rattle.cube.specs.Cube.{Within, ValuesCopied, knownAt, Cube, MasksUnder, FacetTaken}
 use Rattle.cube.proofs.Corners.{column-kept}

@@ -14,7 +14,7 @@ use Rattle.curves.specs.Grid.{Vertex, Facet, plus, facetVertices}
 use Rattle.curves.specs.Step.{column, columns, readableAll}
 use Rattle.paper.specs.Values.{fieldOf}
 use Rattle.places.specs.declared.HeldPlace.{HeldPlace}
-use Rattle.facets.specs.Cells.{stride, columnAt, entryLimit, facetColumns, Cells}
+use Rattle.determinants.specs.Cells.{stride, columnAt, entryLimit, facetColumns, Cells}
 
 -- every number is at most as large as a readable value
 pub record Within (n : ℕ) (xs : List ℤ) : Type 0 where

@@ -11,14 +11,12 @@ ghost use Rattle.exact.specs.Int.{0ℤ};
 ghost use Rattle.bits.specs.Axes.{Axes};
 ghost use Rattle.places.specs.Held.{vertexAs, facetAs, VertexSize};
 ghost use Rattle.job.specs.OpenJob.{JobOf};
-ghost use Rattle.values.specs.Moves.{moveLimit};
-ghost use Rattle.facets.specs.Cells.{Cells};
+ghost use Rattle.lattice.specs.Moves.{moveLimit};
+ghost use Rattle.determinants.specs.Cells.{Cells};
 ghost use Rattle.cube.specs.Cube.{Within, ValuesCopied, CornerPut, Cube, FacetTaken, MasksUnder, OneSide, OneSided};
-use columns::field;
 use columns::masks;
 use places::HeldPlace;
 use places::Vertex;
-use values::lattice;
 
 // The values of vertex i of some columns, copied as those of vertex j of others.
 fn copy_values(n: usize, from: &[i64], i: usize, to: &mut [i64], j: usize)

@@ -8,7 +8,8 @@ use lib.Dec.{ltb}
 use lib.ListN.{length}
 use borrow.Author.Tests.{lt-ltb, le-ltb}
 use Rattle.nesting.specs.Standing.{stands, brokenAt, some, standingFrom, standing}
-use Rattle.cutorder.specs.Positions.{firstFrom, earlierOf, firstBroken}
+use Rattle.positions.specs.Positions.{firstFrom}
+use Rattle.cutorder.specs.Ordering.{earlierOf, firstBroken}
 
 -- ---- the earlier of two
 

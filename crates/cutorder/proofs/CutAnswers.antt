@@ -14,7 +14,7 @@ use Rattle.job.proofs.OpenJob.{job-opens}
 use Rattle.nesting.specs.Standing.{standing}
 use Rattle.nesting.specs.CutOrder.{loopInside, firstListed, orderRefusal, ordered}
 use Rattle.nesting.proofs.OrderAnswers.{order-not-opened, order-other-dimension, order-uneven}
-use Rattle.cutorder.specs.Positions.{orderedIn}
+use Rattle.cutorder.specs.Ordering.{orderedIn}
 
 module _ (s ps : List ℕ) where
   pub cut-not-opened : (l : ℕ) → l ≡ openRefusal s → (l ≡ 0 → ⊥) → refused l ≡ ordered s ps

@@ -10,10 +10,11 @@ use Rattle.paper.specs.Pen.{placeBytes, placeCount}
 use Rattle.paper.proofs.Refusals.{first-refuses, first-passes, neither-refused, unless-refused, unless-answered, answered-inv}
 use Rattle.nesting.specs.Standing.{stands, brokenAt, standing}
 use Rattle.nesting.specs.CutOrder.{loopInside, listedAt, firstListed, positionRefusal, positionsRefusal}
-use Rattle.cutorder.specs.Positions.{firstFrom, outerOf, atPosition, TakesUpTo, earlierOf, firstBroken, orderedIn}
+use Rattle.positions.specs.Positions.{firstFrom, outerOf, atPosition, TakesUpTo}
+use Rattle.cutorder.specs.Ordering.{earlierOf, firstBroken, orderedIn}
 use Rattle.cutorder.proofs.Broken.{broken-last, standing-broken, standing-stands}
-use Rattle.cutorder.proofs.ListedPlaces.{listed-last, listed-length}
-use Rattle.cutorder.proofs.AtPosition.{refused-inv, takes-next}
+use Rattle.positions.proofs.ListedPlaces.{listed-last, listed-length}
+use Rattle.positions.proofs.AtPosition.{refused-inv, takes-next}
 
 pub record Ordering (s ps : List ℕ) (first k : ℕ) : Type 0 where
   pub within : k ≤ placeCount s ps

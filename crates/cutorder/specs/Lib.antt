@@ -1,2 +1,2 @@
 -- What the contracts of this crate cite, beside the definitions of the crates below.
-pub mod Positions
+pub mod Ordering

@@ -10,9 +10,9 @@ use Rattle.grounds.specs.Ground.{Ground, ground}
 use Rattle.grounds.specs.Judged.{placeColumns, judgedBy, plainly}
 use Rattle.grounds.proofs.Judged.{both-agree}
 use Rattle.job.specs.OpenJob.{JobOf}
-use Rattle.facets.specs.Cells.{facetColumns}
-use Rattle.judge.specs.declared.JobPlace.{JobPlace}
-use Rattle.judge.specs.Located.{PlaceFound}
+use Rattle.determinants.specs.Cells.{facetColumns}
+use Rattle.located.specs.declared.JobPlace.{JobPlace}
+use Rattle.located.specs.Located.{PlaceFound}
 use Rattle.judge.proofs.JudgeAnswers.{judge-not-opened}
 
 -- both clauses of the contract follow from the first

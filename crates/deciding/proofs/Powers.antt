@@ -20,7 +20,7 @@ use Rattle.grounds.specs.Ground.{zeroDeterminant, vertexAgainst, allWith, decid
 use Rattle.grounds.proofs.Deciding.{decides-only, decides-none, power-to-name}
 use Rattle.grounds.proofs.Ground.{power-at, AllBefore, before-next, ground-only}
 use Rattle.facets.specs.Signs.{signNumber}
-use Rattle.facets.specs.Entries.{coefficientLimit}
+use Rattle.determinants.specs.Entries.{coefficientLimit}
 use Rattle.facets.proofs.SignNumber.{number-zero}
 use Rattle.deciding.specs.Against.{FirstAgainst}
 

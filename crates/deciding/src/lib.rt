@@ -1,7 +1,7 @@
 // Judge in the form that names its ground (request 2.9).
 
-use facets::determinants::coefficient;
-use facets::determinants::determinant;
+use determinants::coefficient;
+use determinants::determinant;
 use facets::sign_of;
 use grounds::JudgedBy;
 ghost use mathlib.Core.Path.{_≡_};
@@ -15,7 +15,7 @@ ghost use Rattle.exact.specs.Crossed.{countFrom};
 ghost use Rattle.paper.specs.Operations.{answered, judged};
 ghost use Rattle.grounds.specs.Ground.{allWith, decidingPower, ground};
 ghost use Rattle.grounds.specs.Judged.{judgedBy, judgedByAs, plainly};
-ghost use Rattle.facets.specs.Cells.{Cells, facetColumns};
+ghost use Rattle.determinants.specs.Cells.{Cells, facetColumns};
 ghost use Rattle.facets.specs.Signs.{signNumber};
 ghost use Rattle.deciding.specs.Against.{FirstAgainst};
 
@@ -110,7 +110,7 @@ pub fn judge_ground(job: &[u8], place: &[u8]) -> JudgedBy
     }
     let n = job::opened_dimension(job);
     let mut cells = [0i64; 15];
-    let here = judge::place_in(job, n, place, &mut cells);
+    let here = located::place_in(job, n, place, &mut cells);
     if here.refusal != 0 {
         return JudgedBy::Refused(here.refusal);
     }

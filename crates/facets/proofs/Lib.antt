@@ -1,5 +1,3 @@
--- Laws of the cells, of signs and of the walk over the vertices, for the proofs of the functions.
-pub mod Entries
-pub mod FacetMinors
+-- Laws of signs and of the walk over the vertices, for the proofs of the functions.
 pub mod SignNumber
 pub mod CrossedWalk

@@ -1,4 +1,2 @@
 -- What the contracts of this crate cite, beside the definitions of the crates below.
 pub mod Signs
-pub mod Cells
-pub mod Entries

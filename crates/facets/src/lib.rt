@@ -1,15 +1,12 @@
 // Crossed or not: the published test with the tie rule, by whole numbers.
 
-// D and the coefficients.
-pub mod determinants;
-
 use determinants::coefficient;
 use determinants::determinant;
 ghost use mathlib.Core.Path.{_≡_};
 ghost use Prim.Native.Nat.{_≤_};
 ghost use Rattle.exact.specs.Sign.{sign};
 ghost use Rattle.exact.specs.Crossed.{crossed};
-ghost use Rattle.facets.specs.Cells.{Cells, facetColumns};
+ghost use Rattle.determinants.specs.Cells.{Cells, facetColumns};
 ghost use Rattle.facets.specs.Signs.{signNumber};
 
 // The sign of a number: 0 for nought, 1 above it, 2 below it.

@@ -1,4 +1,2 @@
--- Parts of the definition of Open's refusal, where Body's part begins, and what is known of a job that opens.
-pub mod BodyTests
-pub mod PartOffset
+-- What is known of a job that opens.
 pub mod OpenJob

@@ -1,55 +1,14 @@
-// Open and Body of document 01: a job's bytes tested in the paper's order, and the parts of a job that opens.
+// Open of document 01: a job's bytes tested in the paper's order, and the parts of a job that opens.
 
 use bits::read;
-use contents::boxes;
-use contents::entries;
-use contents::limits;
+use bodytests::bodies_refusal;
 use paper::Opened;
 ghost use mathlib.Core.Path.{_≡_};
-ghost use mathlib.Core.Bool.{true, false};
-ghost use Prim.Native.Nat.{_+_, _-_, _≤_, _<_};
-ghost use Rattle.paper.specs.Job.{dimension, bias, entryOffset, body, contentsOk, allFrom, polynomialOk, openRefusal};
-ghost use Rattle.paper.specs.Operations.{answered, polynomialTerms, openValues, opened, bodyRefusal, bodyPart};
+ghost use Prim.Native.Nat.{_+_, _≤_, _<_};
+ghost use Rattle.paper.specs.Job.{dimension, bias, entryOffset, body, openRefusal};
+ghost use Rattle.paper.specs.Operations.{answered, polynomialTerms, openValues, opened};
 ghost use Rattle.paper.specs.Answers.{openedAs};
-ghost use Rattle.bits.specs.Axes.{Axes};
-ghost use Rattle.contents.specs.Parts.{BeginsAt};
-ghost use Rattle.job.specs.BodyTests.{bodiesRefusal};
-ghost use Rattle.job.specs.PartOffset.{partOffset};
-
-// Every polynomial's terms are right and rise.
-fn polynomials_ok(n: usize, job: &[u8]) -> bool
-    requires { ⌜ contentsOk n (now job) ≡ true ⌝ }
-    ensures { λ r. ⌜ r ≡ allFrom (λ k. polynomialOk n (body (now (job .entry)) k)) 1 (n - 1) ⌝ }
-{
-    let mut k = 1;
-    while k < n {
-        if !terms::polynomial_ok(n, entries::part_of(job, k)) {
-            return false;
-        }
-        k += 1;
-    }
-    true
-}
-
-// Open's refusals 5 to 8: contents, box, terms, start.
-fn bodies_refusal(n: usize, job: &[u8]) -> u64
-    requires { ⌜ Axes n ⌝ }
-    ensures { λ r. ⌜ r ≡ bodiesRefusal n (now (job .entry)) ⌝ }
-{
-    if !entries::contents_ok(n, job) {
-        return 5;
-    }
-    if !boxes::box_ok(n, entries::part_of(job, 0)) {
-        return 6;
-    }
-    if !polynomials_ok(n, job) {
-        return 7;
-    }
-    if !places::place_ok(n, entries::part_of(job, n)) {
-        return 8;
-    }
-    0
-}
+ghost use Rattle.entries.specs.Parts.{BeginsAt};
 
 // Open's refusal, tested in rising number; 0 if the job opens.
 pub fn open_refusal(job: &[u8]) -> u64
@@ -130,29 +89,4 @@ pub fn open(job: &[u8]) -> Opened
         return Opened::Refused(refusal);
     }
     opened_values(job)
-}
-
-// Body's refusal: Open's, then 12 if the index is not under n + 1; 0 if there is none.
-pub fn body_refusal(job: &[u8], k: usize) -> u64
-    ensures { λ r. ⌜ r ≡ bodyRefusal (now (job .entry)) k ⌝ }
-{
-    let refusal = open_refusal(job);
-    if refusal != 0 {
-        return refusal;
-    }
-    if k < opened_dimension(job) + 1 {
-        return 0;
-    }
-    12
-}
-
-// Body's answer: the part of the job that holds body k, empty for a refusal.
-pub fn body_part(job: &[u8], k: usize) -> &[u8]
-    ensures place { λ r. ⌜ BeginsAt (job .entry) (partOffset (now (job .entry)) k) r ⌝ }
-    ensures bytes { λ r. ⌜ now r ≡ bodyPart (now (job .entry)) k ⌝ }
-{
-    if body_refusal(job, k) != 0 {
-        return &job[0..0];
-    }
-    opened_body(job, k)
 }

@@ -11,10 +11,10 @@ use Rattle.paper.proofs.Refusals.{first-refuses, unless-refused, unless-answere
 use Rattle.grounds.specs.Judged.{judgedBy, plainly}
 use Rattle.grounds.proofs.Judged.{both-agree}
 use Rattle.job.specs.OpenJob.{JobOf}
-use Rattle.facets.specs.Cells.{facetColumns}
-use Rattle.judge.specs.declared.JobPlace.{JobPlace}
-use Rattle.judge.specs.Located.{PlaceFound}
-use Rattle.judge.proofs.PlaceCrossed.{crossed-is}
+use Rattle.determinants.specs.Cells.{facetColumns}
+use Rattle.located.specs.declared.JobPlace.{JobPlace}
+use Rattle.located.specs.Located.{PlaceFound}
+use Rattle.located.proofs.PlaceCrossed.{crossed-is}
 
 -- both clauses of the contract follow from the first
 pub judge-clauses : (s p : List ℕ) {a : Answer Bool} → a ≡ judged s p → (a ≡ judged s p) × (a ≡ plainly (judgedBy s p))

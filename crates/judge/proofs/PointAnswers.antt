@@ -16,11 +16,11 @@ use Rattle.paper.proofs.Refusals.{first-refuses, unless-refused, unless-answere
 use Rattle.places.specs.Held.{vertexAs, masksAs, facetAs, VertexSize}
 use Rattle.places.specs.declared.Vertex.{Vertex}
 use Rattle.job.specs.OpenJob.{JobOf}
-use Rattle.facets.specs.Cells.{facetColumns}
+use Rattle.determinants.specs.Cells.{facetColumns}
 use Rattle.points.specs.Shares.{lowLimit}
-use Rattle.judge.specs.declared.JobPlace.{JobPlace}
-use Rattle.judge.specs.Located.{Crosses}
-use Rattle.judge.proofs.PlaceFound.{held-facet}
+use Rattle.located.specs.declared.JobPlace.{JobPlace}
+use Rattle.located.specs.Located.{Crosses}
+use Rattle.located.proofs.PlaceFound.{held-facet}
 use Rattle.judge.proofs.JudgeAnswers.{judge-not-opened}
 
 pub point-refused : (s p : List ℕ) (k : ℕ) → k ≡ pointRefusal s p → (k ≡ 0 → ⊥) → refused k ≡ paddedPoint (pointed s p)

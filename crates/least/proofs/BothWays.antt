@@ -21,7 +21,7 @@ use Rattle.places.specs.Held.{facetAs, placeAs, VertexSize}
 use Rattle.places.specs.declared.HeldPlace.{HeldPlace}
 use Rattle.job.specs.OpenJob.{JobOf}
 use Rattle.job.proofs.OpenJob.{job-opens}
-use Rattle.facets.specs.Cells.{facetColumns}
+use Rattle.determinants.specs.Cells.{facetColumns}
 use Rattle.step.specs.Held.{heldLimit, Held}
 use Rattle.carried.specs.declared.Entered.{Entered}
 use Rattle.carried.specs.Carries.{Carries, Enters}

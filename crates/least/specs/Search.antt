@@ -14,7 +14,7 @@ use Rattle.paper.specs.Values.{fieldOf}
 use Rattle.paper.specs.declared.Verdict as Verdict
 use Rattle.places.specs.Held.{placeAs}
 use Rattle.places.specs.declared.HeldPlace.{HeldPlace}
-use Rattle.facets.specs.Cells.{Cells, facetColumns}
+use Rattle.determinants.specs.Cells.{Cells, facetColumns}
 use Rattle.step.specs.Held.{Held}
 use Rattle.carried.specs.declared.Entered.{Entered}
 use Rattle.carried.specs.Carries.{Carries}

@@ -14,8 +14,8 @@ use Rattle.paper.proofs.Refusals.{unless-refused, unless-answered}
 use Rattle.places.specs.Held.{facetAs, placeAs}
 use Rattle.places.specs.declared.HeldPlace.{HeldPlace}
 use Rattle.job.specs.OpenJob.{JobOf}
-use Rattle.judge.specs.declared.JobPlace.{JobPlace}
-use Rattle.judge.specs.Located.{Crosses}
+use Rattle.located.specs.declared.JobPlace.{JobPlace}
+use Rattle.located.specs.Located.{Crosses}
 use Rattle.step.proofs.CrossingHeld.{found-place, found-held}
 use Rattle.carried.specs.declared.Entered.{Entered}
 use Rattle.carried.specs.Carries.{Carries, Enters}

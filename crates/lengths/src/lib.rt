@@ -41,7 +41,7 @@ pub fn trace_length(job: &[u8], n: usize, place: &[u8]) -> Traced
     ensures { λ r. ⌜ tracedAs r ≡ verdictAndCount (tracedFrom (now (job .entry)) (now (place .entry))) ⌝ }
 {
     let mut cells = [0i64; 15];
-    let here = judge::crossing_in(job, n, place, &mut cells);
+    let here = located::crossing_in(job, n, place, &mut cells);
     if here.refusal != 0 {
         return Traced::Refused(here.refusal);
     }

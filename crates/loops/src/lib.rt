@@ -91,7 +91,7 @@ pub fn walk_along(job: &[u8], outer: &[u8], inner: &[u8]) -> Past
     ensures { λ r. ⌜ r ≡ toldOf (now (job .entry)) (decodePlace 2 (now (inner .entry))) (decodePlace 2 (now (outer .entry))) ⌝ }
 {
     let mut cells = [0i64; 15];
-    let here = judge::crossing_in(job, 2, outer, &mut cells);
+    let here = located::crossing_in(job, 2, outer, &mut cells);
     let past = places::read_place(2, inner);
     let start = carried::enter(2, here.place, &mut cells);
     walk_past(job, start, past, &mut cells)

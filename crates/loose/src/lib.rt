@@ -1,8 +1,6 @@
 // Loose bodies by index, and their tests: what opening the job from them would refuse, before a byte of it is written. Bodies come as an array, body k
 // at index k: box, polynomials, start; those past index n are not read.
 
-use contents::boxes;
-use contents::entries;
 ghost use mathlib.Core.Path.{_≡_};
 ghost use mathlib.Core.Bool.{true};
 ghost use Prim.Native.Nat.{_+_, _-_};

@@ -16,7 +16,7 @@ use Rattle.exact.proofs.Bits.{back, back-is}
 use Rattle.paper.specs.Limits.{readableLimit}
 use Rattle.bits.specs.Axes.{Axes}
 use Rattle.bits.proofs.EachDimension.{each-axes}
-use Rattle.facets.specs.Cells.{Cells, entryLimit}
+use Rattle.determinants.specs.Cells.{Cells, entryLimit}
 
 -- ---- one cell copied over another
 

@@ -12,8 +12,8 @@ use Rattle.exact.specs.Int.{0ℤ, 1ℤ}
 use Rattle.exact.specs.Minors.{skip}
 use Rattle.exact.proofs.CountFrom.{map-countFrom-ext}
 use Rattle.exact.proofs.Position.{skip-below, skip-above}
-use Rattle.facets.specs.Cells.{Cells, columnAt}
-use Rattle.facets.proofs.FacetMinors.{facet-columns}
+use Rattle.determinants.specs.Cells.{Cells, columnAt}
+use Rattle.determinants.proofs.FacetMinors.{facet-columns}
 use Rattle.moves.specs.Columns.{newIndex, ColumnsMoved}
 use Rattle.moves.proofs.MovedCells.{MovedUp, MovedDown}
 

@@ -5,7 +5,7 @@ use mathlib.Core.Bool.{cond}
 use mathlib.Core.List.{List}
 use lib.IntN.{ℤ}
 use lib.Dec.{eqb}
-use Rattle.facets.specs.Cells.{Cells, facetColumns}
+use Rattle.determinants.specs.Cells.{Cells, facetColumns}
 
 -- the vertex that is new in the simplex beyond the facet without vertex e: the last for the first, the first for the last, else the same
 unfoldable pub newIndex : ℕ → ℕ → ℕ

@@ -2,7 +2,7 @@
 
 ghost use mathlib.Core.Path.{_≡_};
 ghost use Prim.Native.Nat.{_≤_};
-ghost use Rattle.facets.specs.Cells.{Cells};
+ghost use Rattle.determinants.specs.Cells.{Cells};
 ghost use Rattle.moves.specs.Columns.{newIndex, ColumnsMoved};
 
 // The columns from vertex i on move up by one vertex; that of the last goes, and that of vertex i stays behind as it was.

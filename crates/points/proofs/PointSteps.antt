@@ -22,9 +22,9 @@ use Rattle.places.specs.declared.HeldPlace.{HeldPlace}
 use Rattle.places.specs.Held.{counted, vertexAs, masksAs, VertexSize}
 use Rattle.places.proofs.PlaceStored.{masks-length}
 use Rattle.places.proofs.Counted.{number-counts, number-absent}
-use Rattle.facets.specs.Cells.{Cells, facetColumns}
-use Rattle.facets.specs.Entries.{determinantLimit}
-use Rattle.facets.proofs.FacetMinors.{facet-length, facet-ones}
+use Rattle.determinants.specs.Cells.{Cells, facetColumns}
+use Rattle.determinants.specs.Entries.{determinantLimit}
+use Rattle.determinants.proofs.FacetMinors.{facet-length, facet-ones}
 use Rattle.points.specs.Coordinates.{stepsOn}
 use Rattle.points.specs.Shares.{Share, denominatorLimit, lowLimit, stepsLimit}
 use Rattle.points.proofs.Rounded.{coordinate-size}

@@ -21,7 +21,7 @@ use Rattle.paper.specs.Values.{hasAxis, weightSum}
 use Rattle.bits.specs.Axes.{Axes}
 use Rattle.places.specs.declared.HeldPlace.{HeldPlace}
 use Rattle.places.specs.Held.{masksAs}
-use Rattle.facets.specs.Entries.{coefficientLimit, determinantLimit}
+use Rattle.determinants.specs.Entries.{coefficientLimit, determinantLimit}
 
 -- ---- the test of a mask
 pub axis-there : (mask axis : ℕ) (a b : ℤ) → mask / 2 ^ axis % 2 ≡ 1 → a ≡ cond (hasAxis mask axis) a b

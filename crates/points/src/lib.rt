@@ -2,8 +2,8 @@
 pub mod rounding;
 
 use bits::read::size;
-use facets::determinants::coefficient;
-use facets::determinants::determinant;
+use determinants::coefficient;
+use determinants::determinant;
 use paper::StepPoint;
 use places::HeldPlace;
 use rounding::share_steps;
@@ -19,8 +19,8 @@ ghost use Rattle.exact.specs.Crossed.{coefficient, crossed};
 ghost use Rattle.paper.specs.Values.{hasAxis, weightSum, coordinateSteps, pointFrom};
 ghost use Rattle.paper.specs.Answers.{padded};
 ghost use Rattle.places.specs.Held.{vertexAs, masksAs, VertexSize};
-ghost use Rattle.facets.specs.Cells.{Cells, facetColumns};
-ghost use Rattle.facets.specs.Entries.{coefficientLimit, determinantLimit};
+ghost use Rattle.determinants.specs.Cells.{Cells, facetColumns};
+ghost use Rattle.determinants.specs.Entries.{coefficientLimit, determinantLimit};
 ghost use Rattle.points.specs.Coordinates.{stepsOn};
 ghost use Rattle.points.specs.Shares.{Share, denominatorLimit, lowLimit, stepsLimit};
 

@@ -29,7 +29,7 @@ use Rattle.seamlist.proofs.JobAnswers.{open-answered, refused-as-open, refused-
 use Rattle.least.specs.Search.{leastIn}
 use Rattle.numbered.specs.Frame.{FrameFits}
 use Rattle.numbered.specs.declared.Frame.{Frame}
-use Rattle.scan.specs.Chains.{facetOn}
+use Rattle.chains.specs.Chains.{facetOn}
 use Rattle.scan.specs.Scanned.{spaceFor, Puts, NoSpace}
 use Rattle.scan.proofs.Gathered.{gathered, pairs-gathered}
 

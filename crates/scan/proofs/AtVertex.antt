@@ -12,7 +12,7 @@ use Rattle.exact.specs.Crossed.{countFrom}
 use Rattle.curves.specs.Grid.{Facet, facetOk, chain}
 use Rattle.curves.specs.Grid as Grid
 use Rattle.curves.specs.Box.{keep, chains}
-use Rattle.columns.proofs.Counted.{map-map}
+use Rattle.field.proofs.Counted.{map-map}
 use Rattle.bits.specs.Axes.{Axes}
 use Rattle.bits.proofs.EachDimension.{each-axes}
 use Rattle.places.specs.Held.{vertexAs, masksAs, facetAs, VertexSize}
@@ -20,13 +20,13 @@ use Rattle.places.specs.declared.Vertex.{Vertex}
 use Rattle.places.specs.declared.HeldPlace.{HeldPlace}
 use Rattle.job.specs.OpenJob.{JobOf}
 use Rattle.job.proofs.OpenJob.{job-axes}
-use Rattle.values.proofs.Moves.{vertex-wider}
+use Rattle.lattice.proofs.Moves.{vertex-wider}
 use Rattle.step.specs.Held.{heldLimit}
 use Rattle.cube.specs.Cube.{Cube, OneSided}
 use Rattle.least.specs.Search.{leastIn}
-use Rattle.scan.specs.Chains.{chainArray, firstChain, chainWord, chainOf, facetOn, PlaceOn}
+use Rattle.chains.specs.Chains.{chainArray, firstChain, chainWord, chainOf, facetOn, PlaceOn}
 use Rattle.scan.specs.Scanned.{OnCube, CubeAt}
-use Rattle.scan.proofs.ChainTable.{chainCount, chains-tabled, digits-under, chain-formed}
+use Rattle.chains.proofs.ChainTable.{chainCount, chains-tabled, digits-under, chain-formed}
 use Rattle.scan.proofs.Gathered.{gathered, gathered-none, keep-gathered}
 use Rattle.scan.proofs.SeamTest.{one-sided-seam}
 

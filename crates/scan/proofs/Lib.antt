@@ -1,5 +1,4 @@
 -- Laws that the proofs of the functions cite, a file for each idea.
-pub mod ChainTable
 pub mod SeamTest
 pub mod Gathered
 pub mod Written

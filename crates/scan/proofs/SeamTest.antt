@@ -19,7 +19,7 @@ use Rattle.paper.specs.Values.{fieldOf}
 use Rattle.places.specs.Held.{facetAs, placeAs}
 use Rattle.places.specs.declared.HeldPlace.{HeldPlace}
 use Rattle.job.proofs.OpenJob.{job-axes}
-use Rattle.facets.specs.Cells.{facetColumns}
+use Rattle.determinants.specs.Cells.{facetColumns}
 use Rattle.step.specs.Held.{Held}
 use Rattle.step.proofs.HeldPlaces.{held-form}
 use Rattle.cube.specs.Cube.{FacetTaken, OneSided}

@@ -13,7 +13,7 @@ use Rattle.places.specs.declared.HeldPlace.{HeldPlace}
 use Rattle.places.specs.declared.Vertex.{Vertex}
 use Rattle.job.specs.OpenJob.{JobOf}
 use Rattle.step.specs.Held.{heldLimit}
-use Rattle.facets.specs.Cells.{Cells}
+use Rattle.determinants.specs.Cells.{Cells}
 use Rattle.cube.specs.Cube.{Within, Cube, MasksUnder}
 use Rattle.seamlist.specs.Seams.{front}
 use Rattle.scan.specs.declared.Scanned as Code

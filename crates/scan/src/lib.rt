@@ -1,9 +1,6 @@
 // Every seam in a job's box: document 02, request 2.4. The lowest vertices are taken in order, at each of them the facets in order, and a facet that
 // is the least of its seam is written.
 
-// The chains of masks.
-mod chains;
-
 ghost use mathlib.Core.Path.{_≡_};
 ghost use mathlib.Core.List.{map, [], _∷_};
 ghost use Prim.Native.Nat.{_≤_};
@@ -14,7 +11,7 @@ ghost use Rattle.seamlist.specs.Answers.{seamedAs};
 ghost use Rattle.places.specs.Held.{vertexAs, facetAs, VertexSize};
 ghost use Rattle.job.specs.OpenJob.{JobOf};
 ghost use Rattle.least.specs.Search.{leastIn};
-ghost use Rattle.scan.specs.Chains.{chainArray, facetOn};
+ghost use Rattle.chains.specs.Chains.{chainArray, facetOn};
 ghost use Rattle.scan.specs.Scanned.{spaceFor, ScannedIs, OnCube, CubeAt, CubeRoom};
 use least::search;
 use places::HeldPlace;

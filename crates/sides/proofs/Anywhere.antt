@@ -13,7 +13,7 @@ use Rattle.curves.proofs.Vertices.{up-down, down-up}
 use Rattle.places.specs.declared.Vertex.{Vertex}
 use Rattle.places.specs.declared.HeldPlace.{HeldPlace}
 use Rattle.places.specs.Held.{vertexAs, masksAs, facetAs, placeAs}
-use Rattle.orders.specs.Table.{orderAt, InTable}
+use Rattle.table.specs.Table.{orderAt, InTable}
 use Rattle.sides.specs.Facets.{masksAt, sideAt, facetMask}
 use Rattle.sides.specs.Corners.{cornerUnder, lowOver, LowIs, PlaceIs}
 use Rattle.sides.proofs.FacetMasks.{masks-are}

@@ -12,11 +12,11 @@ use Rattle.exact.proofs.Position.{skip-below, skip-above, skip-le}
 use Rattle.curves.specs.Grid.{placeAt, masksFrom, sameMasks, orders}
 use Rattle.curves.proofs.SameFacet.{sameMasks-sound}
 use Rattle.paper.specs.Job.{allFrom}
-use Rattle.orders.specs.Table.{digitAt, orderAt, vertexMask, InTable, MasksAre}
+use Rattle.table.specs.Table.{digitAt, orderAt, vertexMask, InTable, MasksAre}
 use Rattle.sides.specs.Facets.{masksAt, facetMask}
-use Rattle.orders.proofs.Tested.{passes}
-use Rattle.orders.proofs.Rows.{row-length}
-use Rattle.orders.proofs.VertexMasks.{vertexMask-rises, vertexMask-none}
+use Rattle.table.proofs.Tested.{passes}
+use Rattle.table.proofs.TableRows.{row-length}
+use Rattle.table.proofs.VertexMasks.{vertexMask-rises, vertexMask-none}
 
 -- the facet's lowest vertex comes first
 skip-from : (out i : ℕ) → skip out 0 ≤ skip out i

@@ -12,9 +12,9 @@ use Rattle.exact.proofs.AndTests.{and-left, and-right}
 use Rattle.exact.specs.Minors.{skip}
 use Rattle.curves.specs.Grid.{placeAt, masksFrom, sideOf, orders}
 use Rattle.paper.specs.Job.{allFrom}
-use Rattle.orders.specs.Table.{digitAt, orderAt, axisAt, vertexMask, InTable, MasksAre}
+use Rattle.table.specs.Table.{digitAt, orderAt, axisAt, vertexMask, InTable, MasksAre}
 use Rattle.sides.specs.Facets.{sideAt, facetMask}
-use Rattle.orders.proofs.Tested.{passes}
+use Rattle.table.proofs.Tested.{passes}
 
 -- the facet is flat
 abbrev pub flatAt : ℕ → ℕ → ℕ → Bool

@@ -18,11 +18,11 @@ use Rattle.curves.specs.Grid as Grid
 use Rattle.curves.proofs.Vertices.{plus-zero, vertices-masks}
 use Rattle.places.specs.declared.Vertex.{Vertex}
 use Rattle.places.specs.Held.{vertexAs, VertexSize}
-use Rattle.values.specs.Moves.{Shifted, Lowered}
-use Rattle.values.proofs.Moves.{vertex-wider}
-use Rattle.orders.specs.Table.{orderAt, axisAt, vertexMask, InTable}
+use Rattle.lattice.specs.Moves.{Shifted, Lowered}
+use Rattle.lattice.proofs.Moves.{vertex-wider}
+use Rattle.table.specs.Table.{orderAt, axisAt, vertexMask, InTable}
 use Rattle.sides.specs.Corners.{cornerUnder, lowOver, CornerIs, LowIs}
-use Rattle.orders.proofs.Rows.{axis-under}
+use Rattle.table.proofs.TableRows.{axis-under}
 use Rattle.sides.proofs.Anywhere.{low-corner, corner-low}
 
 -- ---- sizes

@@ -7,7 +7,7 @@ use Rattle.curves.specs.Grid as Grid
 use Rattle.places.specs.declared.Vertex.{Vertex}
 use Rattle.places.specs.declared.HeldPlace.{HeldPlace}
 use Rattle.places.specs.Held.{vertexAs, placeAs, VertexSize}
-use Rattle.orders.specs.Table.{orderAt}
+use Rattle.table.specs.Table.{orderAt}
 
 -- the corner of the simplex whose facet without a vertex has the lowest vertex v: one below on the first axis if that is vertex 0
 unfoldable pub cornerUnder : Grid.Vertex → List ℕ → ℕ → Grid.Vertex

@@ -4,7 +4,7 @@ use Prim.Native.Nat.{ℕ, _-_}
 use mathlib.Core.List.{List, []}
 use Rattle.exact.specs.Minors.{skip}
 use Rattle.curves.specs.Grid.{placeAt}
-use Rattle.orders.specs.Table.{orderAt, vertexMask}
+use Rattle.table.specs.Table.{orderAt, vertexMask}
 
 -- the masks and the side of the facet without vertex `out`
 unfoldable pub masksAt : ℕ → ℕ → ℕ → List ℕ

@@ -2,11 +2,10 @@
 
 ghost use mathlib.Core.Path.{_≡_};
 ghost use Prim.Native.Nat.{_≤_, _<_};
-ghost use Rattle.orders.specs.Table.{InTable, axisAt};
+ghost use Rattle.table.specs.Table.{InTable, axisAt};
 ghost use Rattle.sides.specs.Facets.{facetMask, sideAt};
 use bits::index::skip;
 use bits::masks;
-use orders::table;
 
 // The axis that leads from vertex k to the next: the only one of the difference.
 fn added_axis(n: usize, row: usize, k: usize) -> usize

@@ -5,15 +5,13 @@ ghost use Prim.Native.Nat.{ℕ, _-_, _≤_, _<_};
 ghost use Rattle.curves.specs.Grid.{placeAt};
 ghost use Rattle.exact.specs.Minors.{skip};
 ghost use Rattle.places.specs.Held.{vertexAs, VertexSize};
-ghost use Rattle.orders.specs.Table.{InTable, MasksAre, orderAt, digitAt};
+ghost use Rattle.table.specs.Table.{InTable, MasksAre, orderAt, digitAt};
 ghost use Rattle.sides.specs.Facets.{sideAt};
-ghost use Rattle.values.specs.Moves.{moveLimit};
+ghost use Rattle.lattice.specs.Moves.{moveLimit};
 ghost use Rattle.sides.specs.Corners.{PlaceIs};
 use bits::index::skip;
-use orders::table;
 use places::HeldPlace;
 use places::Vertex;
-use values::lattice;
 
 // Mask i of the facet without vertex `out`, from the masks of a row's vertices and that of the facet's lowest vertex. Behind the last
 // vertex the digit is 0, and so is the difference then.

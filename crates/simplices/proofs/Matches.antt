@@ -23,10 +23,10 @@ use Rattle.bits.specs.Axes.{Axes}
 use Rattle.bits.proofs.EachDimension.{each-axes}
 use Rattle.places.specs.declared.HeldPlace.{HeldPlace}
 use Rattle.places.specs.Held.{masksAs, facetAs, placeAs}
-use Rattle.orders.specs.Table.{orderAt, InTable}
+use Rattle.table.specs.Table.{orderAt, InTable}
 use Rattle.sides.specs.Facets.{masksAt, sideAt, facetMask}
 use Rattle.sides.specs.Corners.{cornerUnder, lowOver}
-use Rattle.orders.proofs.Rows.{row-order}
+use Rattle.table.proofs.TableRows.{row-order}
 use Rattle.sides.proofs.FacetMasks.{masks-are}
 use Rattle.sides.proofs.Anywhere.{placed, place-anywhere, low-corner}
 use Rattle.simplices.specs.Search.{sameMask, matches, Found}

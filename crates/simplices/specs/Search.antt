@@ -4,7 +4,7 @@ use mathlib.Core.Path.{_≡_}
 use mathlib.Core.Bool.{Bool, true, false, _&&_, _||_}
 use lib.Dec.{eqb, leb}
 use Rattle.curves.specs.Grid.{Place, sameMasks, incidence}
-use Rattle.orders.specs.Table.{orderAt, InTable}
+use Rattle.table.specs.Table.{orderAt, InTable}
 use Rattle.sides.specs.Facets.{masksAt, sideAt, facetMask}
 use Rattle.sides.specs.Corners.{cornerUnder}
 

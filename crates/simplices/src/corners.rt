@@ -3,14 +3,12 @@
 ghost use Prim.Native.Nat.{ℕ, _≤_};
 ghost use Rattle.curves.specs.Grid.{placeAt, turn};
 ghost use Rattle.places.specs.Held.{vertexAs, VertexSize};
-ghost use Rattle.orders.specs.Table.{InTable, MasksAre, orderAt};
-ghost use Rattle.values.specs.Moves.{moveLimit};
+ghost use Rattle.table.specs.Table.{InTable, MasksAre, orderAt};
+ghost use Rattle.lattice.specs.Moves.{moveLimit};
 ghost use Rattle.sides.specs.Corners.{CornerIs, PlaceIs};
-use orders::table;
 use places::HeldPlace;
 use places::Vertex;
 use sides::place;
-use values::lattice;
 
 // The corner of the simplex with the order of the row that has these masks, whose facet without vertex `out` is that of the place. The facet's
 // lowest vertex is vertex 0, the corner, or vertex 1 if that is left out.

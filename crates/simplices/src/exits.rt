@@ -5,7 +5,7 @@ ghost use mathlib.Core.Bool.{not, _&&_};
 ghost use Prim.Native.Nat.{_≤_};
 ghost use lib.Dec.{eqb};
 ghost use Rattle.exact.specs.Crossed.{crossed, exit};
-ghost use Rattle.facets.specs.Cells.{Cells, simplexColumns, facetColumns};
+ghost use Rattle.determinants.specs.Cells.{Cells, simplexColumns, facetColumns};
 
 // q is another vertex than `out`, and the facet without it is crossed.
 pub fn is_other(n: usize, cells: &[i64; 15], out: usize, q: usize) -> bool

@@ -7,10 +7,9 @@ ghost use Prim.Native.Nat.{_≤_, _<_};
 ghost use Rattle.curves.specs.Grid.{sameMasks, placeOk};
 ghost use Rattle.paper.specs.Limits.{dimensionOk};
 ghost use Rattle.places.specs.Held.{masksAs, placeAs};
-ghost use Rattle.orders.specs.Table.{InTable};
+ghost use Rattle.table.specs.Table.{InTable};
 ghost use Rattle.sides.specs.Facets.{masksAt};
 ghost use Rattle.simplices.specs.Search.{sameMask, matches, FoundOut, Found};
-use orders::table;
 use places::HeldPlace;
 use sides::facet;
 

@@ -9,8 +9,8 @@ use Rattle.paper.specs.Values.{fieldOf}
 use Rattle.paper.proofs.PointTakes.{point-traceable}
 use Rattle.places.specs.Held.{placeAs}
 use Rattle.job.specs.OpenJob.{JobOf}
-use Rattle.judge.specs.declared.JobPlace.{JobPlace}
-use Rattle.judge.specs.Located.{Crosses}
+use Rattle.located.specs.declared.JobPlace.{JobPlace}
+use Rattle.located.specs.Located.{Crosses}
 use Rattle.step.specs.Held.{heldLimit, Held}
 
 module _ {n : ℕ} {s p : List ℕ} {r : JobPlace} {cells : List ℤ} (j : JobOf n s) (c : Crosses n s p r cells) (none : r .refusal ≡ 0) where

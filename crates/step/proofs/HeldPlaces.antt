@@ -24,10 +24,10 @@ use Rattle.places.specs.declared.HeldPlace.{HeldPlace}
 use Rattle.places.proofs.WordBytes.{short-size}
 use Rattle.places.proofs.PlaceStored.{coordinate-short}
 use Rattle.job.specs.OpenJob.{JobOf}
-use Rattle.values.specs.Moves.{moveLimit}
-use Rattle.values.proofs.Moves.{vertex-wider}
+use Rattle.lattice.specs.Moves.{moveLimit}
+use Rattle.lattice.proofs.Moves.{vertex-wider}
 use Rattle.job.proofs.OpenJob.{job-axes}
-use Rattle.orders.specs.Table.{InTable, orderAt}
+use Rattle.table.specs.Table.{InTable, orderAt}
 use Rattle.sides.specs.Corners.{CornerIs, LowIs}
 use Rattle.sides.proofs.MovedCorners.{first-coordinates, corner-rest, low-rest, size-parts}
 use Rattle.step.specs.Held.{heldLimit, Held}

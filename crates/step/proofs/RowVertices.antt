@@ -9,8 +9,8 @@ use Rattle.places.specs.Held.{vertexAs}
 use Rattle.places.specs.declared.Vertex.{Vertex}
 use Rattle.columns.specs.Vertices.{simplexVertices}
 use Rattle.columns.specs.Found.{SimplexFound}
-use Rattle.orders.specs.Table.{InTable, orderAt, vertexMask}
-use Rattle.orders.proofs.RowVertices.{row-vertices}
+use Rattle.table.specs.Table.{InTable, orderAt, vertexMask}
+use Rattle.table.proofs.RowVertices.{row-vertices}
 
 pub row-found :
     {s : List ℕ} {n row m1 m2 m3 m4 number : ℕ} {cells : List ℤ} (corner : Vertex) → InTable n row

@@ -21,10 +21,10 @@ use Rattle.paper.specs.Operations.{stepIn}
 use Rattle.places.specs.Held.{vertexAs, facetAs, placeAs}
 use Rattle.places.specs.declared.Vertex.{Vertex}
 use Rattle.places.specs.declared.HeldPlace.{HeldPlace}
-use Rattle.facets.specs.Cells.{simplexColumns}
+use Rattle.determinants.specs.Cells.{simplexColumns}
 use Rattle.columns.specs.Found.{stopNumber, SimplexFound}
 use Rattle.job.proofs.OpenJob.{job-axes}
-use Rattle.orders.specs.Table.{orderAt}
+use Rattle.table.specs.Table.{orderAt}
 use Rattle.sides.specs.Corners.{CornerIs, PlaceIs}
 use Rattle.simplices.specs.Search.{Found}
 use Rattle.step.specs.Held.{Held}

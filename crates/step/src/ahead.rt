@@ -3,13 +3,12 @@
 ghost use Rattle.curves.specs.Grid.{vertices};
 ghost use Rattle.places.specs.Held.{vertexAs, placeAs, VertexSize};
 ghost use Rattle.job.specs.OpenJob.{JobOf};
-ghost use Rattle.values.specs.Moves.{moveLimit};
-ghost use Rattle.facets.specs.Cells.{Cells};
+ghost use Rattle.lattice.specs.Moves.{moveLimit};
+ghost use Rattle.determinants.specs.Cells.{Cells};
 ghost use Rattle.columns.specs.Found.{SimplexFound};
-ghost use Rattle.orders.specs.Table.{InTable, orderAt};
+ghost use Rattle.table.specs.Table.{InTable, orderAt};
 ghost use Rattle.step.specs.Held.{Held};
 ghost use Rattle.step.specs.Ahead.{AheadIs};
-use orders::table;
 use places::HeldPlace;
 use places::Vertex;
 use simplices::corners;

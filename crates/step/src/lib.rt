@@ -16,7 +16,7 @@ fn step_in(job: &[u8], n: usize, place: &[u8]) -> Stepped
     ensures { λ r. ⌜ steppedAs r ≡ paddedStep (stepped (now (job .entry)) (now (place .entry))) ⌝ }
 {
     let mut cells = [0i64; 15];
-    let here = judge::crossing_in(job, n, place, &mut cells);
+    let here = located::crossing_in(job, n, place, &mut cells);
     if here.refusal != 0 {
         return Stepped::Refused(here.refusal);
     }

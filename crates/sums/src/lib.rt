@@ -1,9 +1,7 @@
 // The running sum of a polynomial of a job at a vertex, from its last term to its first: request 2.8.
 
-use columns::field;
 use paper::Summed;
 use places::Vertex;
-use values::polynomial;
 ghost use mathlib.Core.Path.{_≡_};
 ghost use Rattle.paper.specs.Answers.{summedAs};
 ghost use Rattle.paper.specs.RunningSum.{runningSummed};

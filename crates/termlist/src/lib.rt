@@ -1,6 +1,5 @@
 // Reading a formula: document 02, request 2.1. The language is decided first, at any depth; so the readers meet no text outside it.
 
-use contents::limits;
 use formula::FormulaAnswer;
 ghost use mathlib.Core.Path.{_≡_};
 ghost use Rattle.paper.specs.Operations.{refused};

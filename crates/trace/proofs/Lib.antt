@@ -1,3 +1,2 @@
 -- Laws that the functions' proofs cite, a file for each idea.
-pub mod UnderWay
 pub mod TraceAnswers

@@ -18,14 +18,14 @@ use Rattle.paper.proofs.StartTraceable.{start-traced}
 use Rattle.places.specs.Held.{facetAs, placeAs}
 use Rattle.places.specs.declared.HeldPlace.{HeldPlace}
 use Rattle.job.specs.OpenJob.{JobOf}
-use Rattle.judge.specs.declared.JobPlace.{JobPlace}
-use Rattle.judge.specs.Located.{Crosses}
-use Rattle.judge.proofs.StartRefusal.{start-refusal}
+use Rattle.located.specs.declared.JobPlace.{JobPlace}
+use Rattle.located.specs.Located.{Crosses}
+use Rattle.located.proofs.StartRefusal.{start-refusal}
 use Rattle.step.proofs.CrossingHeld.{found-place, found-held}
 use Rattle.carried.specs.declared.Entered.{Entered}
 use Rattle.carried.specs.Carries.{Carries, Enters}
 use Rattle.carried.proofs.CarriedStep.{enters-carries}
-use Rattle.trace.specs.Visited.{traceOver, Walks}
+use Rattle.walks.specs.Visited.{traceOver, Walks}
 
 -- what Trace says of an answer, and of the buffer
 pub record Answers (s b after : List ℕ) (r : Traced.Traced) : Type 0 where

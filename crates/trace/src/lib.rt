@@ -1,7 +1,5 @@
 // Trace of document 01.
 
-mod walks;
-
 use paper::Traced;
 ghost use mathlib.Core.Path.{_≡_};
 ghost use Rattle.paper.specs.Operations.{traced, spaceOf, verdictAndCount, bufferAfter};
@@ -15,7 +13,7 @@ pub fn trace_in(job: &[u8], n: usize, buffer: &mut [u8]) -> Traced
     ensures written { λ r. ⌜ now (buffer .exit) ≡ bufferAfter (traced (now (job .entry)) (spaceOf (now (job .entry)) (now (buffer .entry)))) (now (buffer .entry)) ⌝ }
 {
     let mut cells = [0i64; 15];
-    let here = judge::crossing_in(job, n, job::opened_body(job, n), &mut cells);
+    let here = located::crossing_in(job, n, job::opened_body(job, n), &mut cells);
     if here.refusal != 0 {
         return Traced::Refused(here.refusal);
     }

@@ -1,7 +1,7 @@
 -- `cabi::gethwapiko_cut_order` meets its contract: the numbers of what the operation answers.
 use mathlib.Core.Path.{ap, _∙_}
 use borrow.Author.Needs.{needs}
-use Rattle.numbers.specs.Numbers.{orderNumbers}
+use Rattle.seamnumbers.specs.Numbers.{orderNumbers}
 use Rattle.cabi.proofs.gethwapiko_cut_order.Statement.{statement}
 use Rattle.cabi.proofs.gethwapiko_cut_order.Tie as tie
 

@@ -1,6 +1,6 @@
 -- `cabi::gethwapiko_judge` meets its contract: the numbers of what Judge answers.
 use mathlib.Core.Path.{ap, _∙_}
-use Rattle.numbers.specs.Numbers.{judgeNumbers}
+use Rattle.judgenumbers.specs.Numbers.{judgeNumbers}
 use borrow.Author.Needs.{needs}
 use Rattle.cabi.proofs.gethwapiko_judge.Statement.{statement}
 use Rattle.cabi.proofs.gethwapiko_judge.Tie as tie

@@ -1,6 +1,6 @@
 -- `cabi::gethwapiko_judge_ground` meets its contract: the numbers of what Judge with its ground answers.
 use mathlib.Core.Path.{ap, _∙_}
-use Rattle.numbers.specs.Numbers.{groundNumbers}
+use Rattle.judgenumbers.specs.Numbers.{groundNumbers}
 use borrow.Author.Needs.{needs}
 use Rattle.cabi.proofs.gethwapiko_judge_ground.Statement.{statement}
 use Rattle.cabi.proofs.gethwapiko_judge_ground.Tie as tie

@@ -1,6 +1,6 @@
 -- `cabi::gethwapiko_pen` meets its contract: the numbers of what Pen answers.
 use mathlib.Core.Path.{ap, _∙_}
-use Rattle.numbers.specs.Numbers.{isSet, penNumbers}
+use Rattle.pointnumbers.specs.Numbers.{isSet, penNumbers}
 use borrow.Author.Needs.{needs}
 use Rattle.cabi.proofs.gethwapiko_pen.Statement.{statement}
 use Rattle.cabi.proofs.gethwapiko_pen.Tie as tie

@@ -1,6 +1,6 @@
 -- `cabi::gethwapiko_seams` meets its contract: the numbers of what the scan answers, and the buffer as it left it.
 use mathlib.Core.Path.{ap, _∙_}
-use Rattle.numbers.specs.Numbers.{seamsNumbers}
+use Rattle.seamnumbers.specs.Numbers.{seamsNumbers}
 use borrow.Author.Needs.{needs}
 use Rattle.cabi.proofs.gethwapiko_seams.Statement.{statement}
 use Rattle.cabi.proofs.gethwapiko_seams.Tie as tie

@@ -1,6 +1,6 @@
 -- `cabi::gethwapiko_small_open` meets its contract: the numbers of what the small cutter's Open answers.
 use mathlib.Core.Path.{ap, _∙_}
-use Rattle.numbers.specs.Numbers.{openNumbers}
+use Rattle.jobnumbers.specs.Numbers.{openNumbers}
 use borrow.Author.Needs.{needs}
 use Rattle.cabi.proofs.gethwapiko_small_open.Statement.{statement}
 use Rattle.cabi.proofs.gethwapiko_small_open.Tie as tie

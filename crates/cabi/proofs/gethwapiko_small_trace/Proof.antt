@@ -1,7 +1,7 @@
 -- `cabi::gethwapiko_small_trace` meets its contract: the numbers of what the small cutter's Trace answers, and the buffer as it
 -- left it.
 use mathlib.Core.Path.{ap, _∙_}
-use Rattle.numbers.specs.Numbers.{traceNumbers}
+use Rattle.walknumbers.specs.Numbers.{traceNumbers}
 use borrow.Author.Needs.{needs}
 use Rattle.cabi.proofs.gethwapiko_small_trace.Statement.{statement}
 use Rattle.cabi.proofs.gethwapiko_small_trace.Tie as tie

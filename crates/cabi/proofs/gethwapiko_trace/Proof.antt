@@ -1,6 +1,6 @@
 -- `cabi::gethwapiko_trace` meets its contract: the numbers of what Trace answers, and the buffer as Trace left it.
 use mathlib.Core.Path.{ap, _∙_}
-use Rattle.numbers.specs.Numbers.{traceNumbers}
+use Rattle.walknumbers.specs.Numbers.{traceNumbers}
 use borrow.Author.Needs.{needs}
 use Rattle.cabi.proofs.gethwapiko_trace.Statement.{statement}
 use Rattle.cabi.proofs.gethwapiko_trace.Tie as tie

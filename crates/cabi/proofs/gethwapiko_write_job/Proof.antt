@@ -1,6 +1,6 @@
 -- `cabi::gethwapiko_write_job` meets its contract: the numbers of what the operation answers, and the buffer as it left it.
 use mathlib.Core.Path.{ap, _∙_}
-use Rattle.numbers.specs.Numbers.{writeNumbers}
+use Rattle.jobnumbers.specs.Numbers.{writeNumbers}
 use borrow.Author.Needs.{needs}
 use Rattle.cabi.proofs.gethwapiko_write_job.Statement.{statement}
 use Rattle.cabi.proofs.gethwapiko_write_job.Tie as tie

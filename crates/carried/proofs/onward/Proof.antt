@@ -5,7 +5,7 @@ use borrow.Author.Needs.{needs}
 use borrow.Author.Tests.{not-true, not-false}
 use Rattle.job.proofs.OpenJob.{job-axes}
 use Rattle.places.specs.Held.{vertexAs}
-use Rattle.orders.specs.Table.{orderAt}
+use Rattle.table.specs.Table.{orderAt}
 use Rattle.sides.specs.Corners.{CornerIs}
 use Rattle.step.proofs.HeldPlaces.{low-moves, corner-moves}
 use Rattle.carried.specs.Carries.{newVertexAt}

@@ -2,7 +2,7 @@
 use Prim.Native.Nat.{_-_}
 use native.Mathlib.Omega.{arith}
 use Rattle.exact.proofs.Position.{skip-le}
-use Rattle.facets.specs.Cells.{simplexColumns}
+use Rattle.determinants.specs.Cells.{simplexColumns}
 use Rattle.compared.proofs.PairSigns.{Comparing, compare-begin, compare-next, compare-end}
 use Rattle.compared.proofs.exit.Statement.{statement}
 use Rattle.compared.proofs.exit.Tie as tie

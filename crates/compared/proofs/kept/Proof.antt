@@ -2,7 +2,7 @@
 use mathlib.Core.Path.{sym, ap, _∙_}
 use mathlib.Core.Bool.{cond}
 use borrow.Author.Needs.{needs}
-use Rattle.facets.specs.Cells.{simplexColumns}
+use Rattle.determinants.specs.Cells.{simplexColumns}
 use Rattle.compared.proofs.PairSigns.{stays-is}
 use Rattle.compared.proofs.kept.Statement.{statement}
 use Rattle.compared.proofs.kept.Tie as tie

@@ -6,7 +6,7 @@ use borrow.Author.Needs.{needs}
 use mathlib.Core.Path.{_≡_, sym, ap, subst, _∙_}
 use Rattle.paper.specs.Pen.{placeCount}
 use Rattle.nesting.specs.Answers.{orderedAs}
-use Rattle.cutorder.specs.Positions.{positionAs}
+use Rattle.positions.specs.Positions.{positionAs}
 use Rattle.paper.proofs.PlaceLists.{place-ends, count-is}
 use Rattle.cutorder.proofs.Ordering.{Ordering, ordering-begins, ordering-refused, ordering-on, ordering-broken, ordering-stands}
 use Rattle.cutorder.proofs.order_in.Statement.{statement}

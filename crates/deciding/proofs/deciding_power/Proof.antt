@@ -6,7 +6,7 @@ use lib.Dec.{lit≤}
 use Rattle.exact.specs.Sign.{sign}
 use Rattle.exact.specs.Crossed.{coefficient}
 use Rattle.exact.proofs.Bits.{holds-call}
-use Rattle.facets.specs.Cells.{facetColumns}
+use Rattle.determinants.specs.Cells.{facetColumns}
 use Rattle.facets.specs.Signs.{signNumber}
 use Rattle.facets.proofs.SignNumber.{number-zero, zero-number}
 use Rattle.deciding.proofs.Powers.{ZerosBefore, one-more-zero, found-power, no-power}

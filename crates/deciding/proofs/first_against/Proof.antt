@@ -7,7 +7,7 @@ use Rattle.exact.specs.Crossed.{coefficient}
 use Rattle.grounds.specs.Ground.{decidingPower}
 use Rattle.grounds.proofs.Deciding.{power-to-name}
 use Rattle.grounds.proofs.Ground.{AllBefore}
-use Rattle.facets.specs.Cells.{facetColumns}
+use Rattle.determinants.specs.Cells.{facetColumns}
 use Rattle.facets.specs.Signs.{signNumber}
 use Rattle.facets.proofs.SignNumber.{number-sign}
 use Rattle.deciding.proofs.Powers.{same-sign, one-more-with, found-against, none-against}

@@ -7,7 +7,7 @@ use Rattle.exact.specs.Sign.{sign}
 use Rattle.exact.specs.Det.{determinant}
 use Rattle.exact.proofs.Bits.{holds-call}
 use Rattle.grounds.specs.Judged.{judgedByAs}
-use Rattle.facets.specs.Cells.{facetColumns}
+use Rattle.determinants.specs.Cells.{facetColumns}
 use Rattle.facets.specs.Signs.{signNumber}
 use Rattle.facets.proofs.SignNumber.{zero-number}
 use Rattle.deciding.proofs.Powers.{zero-ground, against-ground, with-ground}

@@ -11,7 +11,7 @@ use Rattle.exact.specs.Sign.{sign, lexSign}
 use Rattle.exact.specs.Det.{determinant}
 use Rattle.exact.specs.Crossed.{coefficient, coefficients, crossed}
 use Rattle.exact.proofs.Bits.{holds-call}
-use Rattle.facets.specs.Cells.{facetColumns}
+use Rattle.determinants.specs.Cells.{facetColumns}
 use Rattle.facets.specs.Signs.{signNumber}
 use Rattle.facets.proofs.CrossedWalk.{leftAt, left-begin, left-passed, verticesLeft, crossed-zero, crossed-begin}
 use Rattle.facets.proofs.CrossedWalk.{vertices-none, vertex-with, vertex-against, vertex-without}

@@ -1,7 +1,7 @@
 -- `job::opened_body` meets its contract: the contents of a job that opens place each body inside it.
 use borrow.Author.Needs.{needs}
 use Rattle.paper.proofs.Opens.{opens}
-use Rattle.contents.proofs.EntrySteps.{contents-part}
+use Rattle.entries.proofs.EntrySteps.{contents-part}
 use Rattle.job.proofs.opened_body.Statement.{statement}
 use Rattle.job.proofs.opened_body.Tie as tie
 

@@ -2,7 +2,7 @@
 -- coordinate.
 use native.Mathlib.Omega.{arith}
 use Rattle.places.specs.Held.{masksAs}
-use Rattle.facets.specs.Cells.{facetColumns}
+use Rattle.determinants.specs.Cells.{facetColumns}
 use Rattle.points.proofs.PointSteps.{asks, gives, no-axis}
 use Rattle.points.proofs.on_axis.Statement.{statement}
 use Rattle.points.proofs.on_axis.Tie as tie

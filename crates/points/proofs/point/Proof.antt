@@ -3,7 +3,7 @@ use native.Mathlib.Nat.{le-refl}
 use lib.Dec.{lit≤}
 use Rattle.exact.proofs.Bits.{back-size, holds-call}
 use Rattle.places.specs.Held.{masksAs}
-use Rattle.facets.specs.Cells.{facetColumns}
+use Rattle.determinants.specs.Cells.{facetColumns}
 use Rattle.points.proofs.PointSteps.{point-is}
 use Rattle.points.proofs.point.Statement.{statement}
 use Rattle.points.proofs.point.Tie as tie

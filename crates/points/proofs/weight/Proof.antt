@@ -6,8 +6,8 @@ use lib.Dec.{lit≤}
 use Rattle.exact.specs.Size.{Is}
 use Rattle.exact.proofs.Bits.{back, holds-call}
 use Rattle.paper.specs.Values.{hasAxis}
-use Rattle.facets.specs.Entries.{coefficientLimit}
-use Rattle.facets.proofs.FacetMinors.{coefficient-size}
+use Rattle.determinants.specs.Entries.{coefficientLimit}
+use Rattle.determinants.proofs.FacetMinors.{coefficient-size}
 use Rattle.points.proofs.WeightSums.{axis-there, axis-missing, cond-size}
 use borrow.Author.Needs.{needs}
 use Rattle.points.proofs.weight.Statement.{statement}

@@ -3,7 +3,7 @@ use Prim.Native.Nat.{_-_}
 use native.Mathlib.Omega.{arith}
 use mir.Syntax.{w64}
 use mir.Val.{toZ}
-use Rattle.facets.specs.Cells.{facetColumns}
+use Rattle.determinants.specs.Cells.{facetColumns}
 use Rattle.points.proofs.WeightSums.{Summed, summed-none, summed-fits, summed-next, summed-all}
 use Rattle.points.proofs.weight_sum.Statement.{statement}
 use Rattle.points.proofs.weight_sum.Tie as tie

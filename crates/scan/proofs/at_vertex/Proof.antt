@@ -8,7 +8,7 @@ use Rattle.job.proofs.OpenJob.{job-axes}
 use Rattle.least.specs.Search.{leastIn}
 use Rattle.scan.specs.Scanned.{NoSpace, ScannedIs}
 use Rattle.scan.specs.declared.Scanned as Code
-use Rattle.scan.proofs.ChainTable.{chainCount, chains-counted, chain-inside, few-chains}
+use Rattle.chains.proofs.ChainTable.{chainCount, chains-counted, chain-inside, few-chains}
 use Rattle.scan.proofs.Gathered.{gathered}
 use Rattle.scan.proofs.Written.{puts-none, same-size, same-space, part-on, part-full}
 use Rattle.scan.proofs.AtVertex.{metAt, met-all, word-is, on-cube, met-here}

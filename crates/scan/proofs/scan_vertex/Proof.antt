@@ -3,8 +3,8 @@ use mathlib.Core.Path.{sym, subst}
 use lib.Dec.{lit≤}
 use borrow.Author.Needs.{needs}
 use Rattle.job.proofs.OpenJob.{job-axes}
-use Rattle.values.specs.Moves.{moveLimit}
-use Rattle.values.proofs.Moves.{vertex-wider}
+use Rattle.lattice.specs.Moves.{moveLimit}
+use Rattle.lattice.proofs.Moves.{vertex-wider}
 use Rattle.scan.specs.Scanned.{Puts}
 use Rattle.scan.proofs.Written.{puts-none}
 use Rattle.scan.proofs.AtVertex.{cube-at, nothing-met}

@@ -7,7 +7,7 @@ use Rattle.paper.specs.Job.{termCount}
 use Rattle.paper.specs.Answers.{summedAs}
 use Rattle.job.specs.OpenJob.{JobOf}
 use Rattle.job.proofs.OpenJob.{job-axes, opened}
-use Rattle.columns.proofs.OpenedJob.{job-polynomial, job-near}
+use Rattle.field.proofs.OpenedJob.{job-polynomial, job-near}
 use Rattle.sums.proofs.SumAnswers.{sum-unopened, no-polynomial, too-few-terms, vertex-outside, sum-answered}
 use Rattle.sums.proofs.running_sum.Statement.{statement}
 use Rattle.sums.proofs.running_sum.Tie as tie

@@ -8,7 +8,7 @@ use Rattle.termlist.proofs.read_formula.Statement.{statement}
 use Rattle.termlist.proofs.read_formula.Tie as tie
 use Rattle.termlist.proofs.read_formula.Reads as reads
 use Rattle.termlist.proofs.read_formula.Lts as lts
-use Rattle.contents.proofs.limits.dimension_ok.Reads as dimension-ok-reads
+use Rattle.limits.proofs.dimension_ok.Reads as dimension-ok-reads
 use Rattle.readers.proofs.read_sum.Reads as read-sum-reads
 use Rattle.language.proofs.passes.Reads as passes-reads
 use Rattle.termlist.proofs.refusal.Reads as refusal-reads

@@ -8,7 +8,7 @@ use borrow.Author.Tests.{not-true, not-false}
 use Rattle.paper.specs.Values.{fieldOf}
 use Rattle.paper.proofs.Tests.{every-all}
 use Rattle.columns.specs.Vertices.{vertexAt, vertexList}
-use Rattle.columns.proofs.Counted.{every-fails}
+use Rattle.field.proofs.Counted.{every-fails}
 use Rattle.columns.proofs.PutColumns.{at-vertex}
 use Rattle.columns.proofs.masks.all_inside.Statement.{statement}
 use Rattle.columns.proofs.masks.all_inside.Tie as tie

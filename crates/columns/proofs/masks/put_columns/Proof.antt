@@ -5,7 +5,7 @@ use native.Mathlib.Omega.{arith}
 use borrow.Author.Tests.{not-true, not-false}
 use Rattle.paper.specs.Values.{fieldOf}
 use Rattle.columns.specs.Vertices.{vertexAt, vertexList}
-use Rattle.columns.proofs.Counted.{every-at}
+use Rattle.field.proofs.Counted.{every-at}
 use Rattle.columns.proofs.PutColumns.{Filling, filling-none, filling-next, filling-fails, filling-all, put-vertex}
 use Rattle.columns.proofs.masks.put_columns.Statement.{statement}
 use Rattle.columns.proofs.masks.put_columns.Tie as tie

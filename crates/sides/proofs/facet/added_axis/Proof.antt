@@ -7,9 +7,9 @@ use native.Mathlib.Numerals.{add-one}
 use borrow.Author.Needs.{needs}
 use Rattle.curves.specs.Grid.{axes}
 use Rattle.curves.proofs.MaskAxes.{axes-power}
-use Rattle.orders.specs.Table.{orderAt, axisAt, vertexMask}
-use Rattle.orders.proofs.Rows.{row-length, axis-under}
-use Rattle.orders.proofs.VertexMasks.{vertexMask-step}
+use Rattle.table.specs.Table.{orderAt, axisAt, vertexMask}
+use Rattle.table.proofs.TableRows.{row-length, axis-under}
+use Rattle.table.proofs.VertexMasks.{vertexMask-step}
 use Rattle.sides.proofs.facet.added_axis.Statement.{statement}
 use Rattle.sides.proofs.facet.added_axis.Tie as tie
 

@@ -4,9 +4,9 @@ use Prim.Native.Nat.{_-_}
 use native.Mathlib.Omega.{arith}
 use borrow.Author.Needs.{needs}
 use Rattle.exact.specs.Minors.{skip}
-use Rattle.orders.specs.Table.{orderAt, vertexMask}
+use Rattle.table.specs.Table.{orderAt, vertexMask}
 use Rattle.sides.specs.Facets.{facetMask}
-use Rattle.orders.proofs.Rows.{row-length}
+use Rattle.table.proofs.TableRows.{row-length}
 use Rattle.sides.proofs.FacetMasks.{skip-rises, no-mask}
 use Rattle.sides.proofs.facet.facet_mask.Statement.{statement}
 use Rattle.sides.proofs.facet.facet_mask.Tie as tie

@@ -7,7 +7,7 @@ use lib.Dec.{eqb}
 use lib.Count.{ones}
 use borrow.Author.Needs.{needs}
 use borrow.Author.Tests.{eq-eqb, ne-eqb, lt-ltb, le-ltb}
-use Rattle.orders.specs.Table.{axisAt}
+use Rattle.table.specs.Table.{axisAt}
 use Rattle.sides.proofs.FacetSides.{flatAt, side-is, bent-low, bent-high}
 use Rattle.sides.proofs.facet.side.Statement.{statement}
 use Rattle.sides.proofs.facet.side.Tie as tie

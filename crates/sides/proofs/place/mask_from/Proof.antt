@@ -3,7 +3,7 @@ use mathlib.Core.Path.{_≡_, ap, _∙_}
 use native.Mathlib.Omega.{arith}
 use borrow.Author.Needs.{needs}
 use Rattle.exact.specs.Minors.{skip}
-use Rattle.orders.specs.Table.{digitAt}
+use Rattle.table.specs.Table.{digitAt}
 use Rattle.sides.proofs.place.mask_from.Statement.{statement}
 use Rattle.sides.proofs.place.mask_from.Tie as tie
 

@@ -5,7 +5,7 @@ use Prim.Native.Nat.{ℕ}
 use native.Mathlib.Omega.{arith}
 use borrow.Author.Needs.{needs}
 use Rattle.exact.specs.Minors.{skip}
-use Rattle.orders.specs.Table.{MasksAre, orderAt, vertexMask}
+use Rattle.table.specs.Table.{MasksAre, orderAt, vertexMask}
 use Rattle.sides.proofs.FacetMasks.{mask-of-digits}
 use Rattle.sides.proofs.MovedCorners.{low-shifted}
 use Rattle.sides.proofs.Anywhere.{place-is}

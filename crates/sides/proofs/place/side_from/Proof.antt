@@ -6,7 +6,7 @@ use native.Mathlib.Omega.{arith}
 use lib.Dec.{ltb}
 use borrow.Author.Needs.{needs}
 use borrow.Author.Tests.{eq-eqb, ne-eqb, lt-ltb, le-ltb}
-use Rattle.orders.specs.Table.{digitAt, InTable, MasksAre}
+use Rattle.table.specs.Table.{digitAt, InTable, MasksAre}
 use Rattle.sides.specs.Facets.{sideAt}
 use Rattle.sides.proofs.FacetSides.{side-by-masks, side-of-digits}
 use Rattle.sides.proofs.place.side_from.Statement.{statement}

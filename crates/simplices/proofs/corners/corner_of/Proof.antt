@@ -3,7 +3,7 @@
 use mathlib.Core.Path.{_∙_}
 use native.Mathlib.Omega.{arith}
 use borrow.Author.Needs.{needs}
-use Rattle.orders.specs.Table.{orderAt}
+use Rattle.table.specs.Table.{orderAt}
 use Rattle.sides.proofs.MovedCorners.{corner-lowered, corner-same}
 use Rattle.simplices.proofs.corners.corner_of.Statement.{statement}
 use Rattle.simplices.proofs.corners.corner_of.Tie as tie

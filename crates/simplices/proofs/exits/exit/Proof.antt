@@ -3,7 +3,7 @@ use Prim.Native.Nat.{suc, _-_, _≤_}
 use mathlib.Core.Path.{_≡_}
 use native.Mathlib.Omega.{arith}
 use Rattle.exact.specs.Crossed.{exit}
-use Rattle.facets.specs.Cells.{simplexColumns, facetColumns}
+use Rattle.determinants.specs.Cells.{simplexColumns, facetColumns}
 use Rattle.simplices.proofs.ExitSearch.{searchFrom, exit-start, exit-here, exit-later, exit-end}
 use Rattle.simplices.proofs.exits.exit.Statement.{statement}
 use Rattle.simplices.proofs.exits.exit.Tie as tie

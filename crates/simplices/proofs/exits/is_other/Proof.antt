@@ -4,7 +4,7 @@ use mathlib.Core.Bool.{not, _&&_}
 use borrow.Author.Needs.{needs}
 use borrow.Author.Tests.{eq-eqb, ne-eqb}
 use Rattle.exact.specs.Crossed.{crossed}
-use Rattle.facets.specs.Cells.{facetColumns}
+use Rattle.determinants.specs.Cells.{facetColumns}
 use Rattle.simplices.proofs.exits.is_other.Statement.{statement}
 use Rattle.simplices.proofs.exits.is_other.Tie as tie
 

@@ -1,0 +1,2 @@
+-- Where Body's part begins.
+pub mod PartOffset

@@ -1,0 +1,2 @@
+-- Parts of the definition of Open's refusal.
+pub mod BodyTests

@@ -1,3 +1,0 @@
--- Laws that the proofs of the functions cite, a file for each idea.
-pub mod EntrySteps
-pub mod BoxTests

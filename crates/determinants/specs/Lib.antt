@@ -1,0 +1,3 @@
+-- What the contracts of this crate cite, beside the definitions of the crates below.
+pub mod Cells
+pub mod Entries

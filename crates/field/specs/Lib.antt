@@ -1,0 +1,2 @@
+-- What is promised of the cells where values are put in.
+pub mod Put

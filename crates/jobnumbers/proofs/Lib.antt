@@ -1,0 +1,2 @@
+-- A law that the proof of a function cites.
+pub mod Answers

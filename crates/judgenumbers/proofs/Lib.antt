@@ -1,0 +1,2 @@
+-- What holds of the structs of both forms of Judge.
+pub mod BothForms

@@ -1,0 +1,3 @@
+-- Laws that the proofs of the functions cite, a file for each idea.
+pub mod OrderDigits
+pub mod Neighbours

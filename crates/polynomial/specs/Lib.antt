@@ -1,0 +1,2 @@
+-- What the functions ask and promise, beside the definitions of the crates below.
+pub mod Sums

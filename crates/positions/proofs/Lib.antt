@@ -1,0 +1,4 @@
+-- Laws that the proofs of the functions cite, a file for each idea.
+pub mod ListedPlaces
+pub mod Comparing
+pub mod AtPosition

@@ -1,4 +1,0 @@
--- What the functions ask and promise, beside the definitions of the crates below.
-pub mod Moves
-pub mod Box
-pub mod Sums

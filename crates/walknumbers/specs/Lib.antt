@@ -1,0 +1,2 @@
+-- The answers as structs of numbers.
+pub mod Numbers
