@@ -9,10 +9,11 @@ use std::process::{exit, Command};
 use std::{env, fs};
 
 /// Functions that an earlier archive may not have, with the name that says that it has them.
-const LATER: [(&str, &str); 3] = [
+const LATER: [(&str, &str); 4] = [
     ("gethwapiko_seams", "before_seams"),
     ("gethwapiko_cut_order", "before_order"),
     ("gethwapiko_write_job", "before_write"),
+    ("gethwapiko_formula", "before_formula"),
 ];
 
 fn main() {

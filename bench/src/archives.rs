@@ -1,10 +1,12 @@
-//! What the bench calls by the C interface itself: Open, the list of seams, the order of cutting and
-//! the writer of jobs of the proved library, and Open, Trace and, if it has them, the list of seams,
-//! the order of cutting and the writer of an earlier state of it, if one is linked (`build.rs`).
+//! What the bench calls by the C interface itself: Open, the list of seams, the order of cutting, the
+//! writer of jobs and the reader of formulas of the proved library, and Open, Trace and, if it has
+//! them, the list of seams, the order of cutting, the writer and the reader of an earlier state of it,
+//! if one is linked (`build.rs`).
 
 #[cfg(before)]
 use reference::operations::Verdict;
 use reference::order::CutOrder;
+use tracer::formula_plain::FormulaAnswer;
 use tracer::open::Opened;
 use tracer::seams_plain::Listed;
 use tracer::write_plain::Loose;
@@ -105,6 +107,7 @@ extern "C" {
         buffer: *mut u8,
         buffer_length: usize,
     ) -> WriteAnswer;
+    fn gethwapiko_formula(n: u64, text: *const u8, text_length: usize) -> FormulaAnswer;
 }
 
 /// Open of the proved library.
@@ -144,6 +147,11 @@ pub fn write_job(loose: &Loose, buffer: &mut [u8]) -> WriteAnswer {
             buffer.len(),
         )
     }
+}
+
+/// The reader of formulas of the proved library.
+pub fn formula(n: u64, text: &[u8]) -> FormulaAnswer {
+    unsafe { gethwapiko_formula(n, text.as_ptr(), text.len()) }
 }
 
 #[cfg(before)]
@@ -259,4 +267,15 @@ pub fn write_job_before(loose: &Loose, buffer: &mut [u8]) -> WriteAnswer {
             buffer.len(),
         )
     }
+}
+
+#[cfg(before_formula)]
+extern "C" {
+    fn before_gethwapiko_formula(n: u64, text: *const u8, text_length: usize) -> FormulaAnswer;
+}
+
+/// The reader of formulas of the earlier state.
+#[cfg(before_formula)]
+pub fn formula_before(n: u64, text: &[u8]) -> FormulaAnswer {
+    unsafe { before_gethwapiko_formula(n, text.as_ptr(), text.len()) }
 }

@@ -1,7 +1,10 @@
-//! Two tracers, two listers of seams, two orders of cutting, two openers and two writers of jobs in
-//! Rust for comparing times, and the jobs that are timed.
+//! Two tracers, two listers of seams, two orders of cutting, two openers, two writers of jobs and two
+//! readers of formulas in Rust for comparing times, and the jobs and texts that are timed.
 
 pub mod careful;
+pub mod formula_plain;
+pub mod formula_table;
+pub mod formula_texts;
 pub mod jobs;
 pub mod long_curves;
 pub mod open;
@@ -15,6 +18,8 @@ pub mod seams_plain;
 pub mod write_jobs;
 pub mod write_plain;
 
+#[cfg(test)]
+mod formula_tests;
 #[cfg(test)]
 mod order_tests;
 #[cfg(test)]

@@ -1,6 +1,6 @@
-//! Times the proved library's Trace, list of seams, order of cutting, Open and writing of jobs against
-//! Rust made for the purpose: all optimised, on the same jobs, within one run. With an earlier state of
-//! the library linked (`build.rs`), that is timed too, under the name `before`.
+//! Times the proved library's Trace, list of seams, order of cutting, Open, writing of jobs and reading
+//! of formulas against Rust made for the purpose: all optimised, on the same jobs, within one run. With
+//! an earlier state of the library linked (`build.rs`), that is timed too, under the name `before`.
 //!
 //!     bench                        Trace on the jobs of `jobs.rs`
 //!     bench FILE..                 Trace on these job files
@@ -10,15 +10,17 @@
 //!     bench order                  the order of cutting on the lists of `order_jobs.rs`
 //!     bench open                   Open on jobs in a row
 //!     bench writing                the writing of the jobs of `write_jobs.rs` from their bodies
+//!     bench formulas               the reading of the texts of `formula_texts.rs`
 //!     bench write FOLDER           writes the jobs of `jobs.rs` to files and prints their names
 //!     bench write-long FOLDER      writes the curves of `long_curves.rs` to files and prints each
 //!                                  name once with each space
 //!     bench write-seams FOLDER     writes the jobs of `seam_jobs.rs` to files and prints their names
 //!     bench write-order FOLDER     writes the jobs of `order_jobs.rs` to files, with the places of each
 //!                                  list beside them, and prints the names of the jobs
+//!     bench formula-names          prints the names of the texts of `formula_texts.rs`
 //!
-//! For a counter of instructions, one tracer, lister, order, opener or writer (proved, plain, careful,
-//! before; for an order narrow and table instead of careful) so many times:
+//! For a counter of instructions, one tracer, lister, order, opener, writer or reader (proved, plain,
+//! careful, before; instead of careful for an order narrow and table, for a reader table) so many times:
 //!
 //!     bench run TRACER FILE TIMES             prints the places of one time
 //!     bench run TRACER FILE SPACE TIMES       the same with space for so many places
@@ -28,8 +30,11 @@
 //!                                             `full`; prints the bytes of one time
 //!     bench run-writing WRITER NAME TIMES     the jobs of `write_jobs.rs` with that name; prints how
 //!                                             many are written in one time
+//!     bench run-formulas READER NAME TIMES    the text of `formula_texts.rs` with that name; prints its
+//!                                             bytes
 
 mod archives;
+mod time_formula;
 mod time_linear;
 mod time_open;
 mod time_order;
@@ -89,10 +94,12 @@ fn main() {
         ["order"] => time_order::all(),
         ["seams"] => time_seams::all(),
         ["writing"] => time_write::all(),
+        ["formulas"] => time_formula::all(),
         ["write", folder] => write(folder),
         ["write-long", folder] => write_long(folder),
         ["write-seams", folder] => write_seams(folder),
         ["write-order", folder] => write_order(folder),
+        ["formula-names"] => time_formula::names(),
         ["run", tracer, file, times] => time_trace::run(tracer, file, time_trace::SPACE, times),
         ["run", tracer, file, space, times] => {
             time_trace::run(tracer, file, space.parse().expect("how many places"), times)
@@ -101,6 +108,7 @@ fn main() {
         ["run-order", order, file, times] => time_order::run(order, file, times),
         ["run-open", opener, n, terms, times] => time_open::run(opener, n, terms, times),
         ["run-writing", writer, name, times] => time_write::run(writer, name, times),
+        ["run-formulas", reader, name, times] => time_formula::run(reader, name, times),
         [] => {
             time_trace::head();
             for (name, job) in jobs() {

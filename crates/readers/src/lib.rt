@@ -1,5 +1,6 @@
 // The four readers of a formula: sum, product, power and atom call each other in a cycle. The text is known to be a formula of dimension n whose
-// parentheses nest no deeper than 16, so that no reader meets a byte that it cannot read.
+// parentheses nest no deeper than 16, so that no reader meets a byte that it cannot read. The dimension and the depth say in the contracts which text
+// it is; nothing branches on them.
 
 use coefficients::InnerResult;
 ghost use mathlib.Core.Path.{_≡_};
@@ -40,7 +41,7 @@ fn is_digit(text: &[u8], i: usize) -> bool
     ensures { λ r. ⌜ r ≡ isDigit (now (text .entry)) i ⌝ }
 {
     if i < text.len() {
-        return (48 <= text[i]) & (text[i] <= 57);
+        return (b'0' <= text[i]) & (text[i] <= b'9');
     }
     false
 }
@@ -49,20 +50,20 @@ fn is_digit(text: &[u8], i: usize) -> bool
 fn is_sign(text: &[u8], i: usize) -> bool
     ensures { λ r. ⌜ r ≡ (byteIs (now (text .entry)) i 43 || byteIs (now (text .entry)) i 45) ⌝ }
 {
-    byte_is(text, i, 43) | byte_is(text, i, 45)
+    byte_is(text, i, b'+') | byte_is(text, i, b'-')
 }
 
 // The axis of a letter.
 fn axis_of(b: u8) -> usize
     ensures { λ r. ⌜ r ≡ axisOf b ⌝ }
 {
-    if b == 120 {
+    if b == b'x' {
         return 0;
     }
-    if b == 121 {
+    if b == b'y' {
         return 1;
     }
-    if b == 122 {
+    if b == b'z' {
         return 2;
     }
     3
@@ -95,10 +96,10 @@ fn read_number(text: &[u8], at: usize, n: usize, depth: usize) -> NumberPart
     requires { ⌜ (AtomAhead n (now text) at depth) × (isDigit (now text) at ≡ true) ⌝ }
     ensures { λ r. ⌜ NumberRead n (now (text .entry)) at depth (r .next) (r .value) ⌝ }
 {
-    let mut value = (text[at] - 48) as u64;
+    let mut value = (text[at] - b'0') as u64;
     let mut next = at + 1;
     while is_digit(text, next) {
-        value = 10 * value + (text[next] - 48) as u64;
+        value = 10 * value + (text[next] - b'0') as u64;
         next += 1;
     }
     NumberPart { next, value }
@@ -109,7 +110,7 @@ fn read_atom(text: &[u8], at: usize, n: usize, depth: usize) -> Part
     requires { ⌜ AtomAhead n (now text) at depth ⌝ }
     ensures { λ r. ⌜ (AtomRead n (now (text .entry)) at depth (r .next) (resultAs (r .result))) × (Kept (r .result .cells)) ⌝ }
 {
-    if byte_is(text, at, 40) {
+    if byte_is(text, at, b'(') {
         let inner = read_sum(text, at + 1, n, depth + 1);
         let result = inner.result;
         return Part {
@@ -139,8 +140,8 @@ fn read_power(text: &[u8], at: usize, n: usize, depth: usize) -> Part
 {
     let base = read_atom(text, at, n, depth);
     let next = base.next;
-    if byte_is(text, next, 94) {
-        let exponent = (text[next + 1] - 48) as u64;
+    if byte_is(text, next, b'^') {
+        let exponent = (text[next + 1] - b'0') as u64;
         let atom = base.result;
         let result = coefficients::power(atom, exponent);
         return Part {
@@ -159,7 +160,7 @@ fn read_product(text: &[u8], at: usize, n: usize, depth: usize) -> Part
     let first = read_power(text, at, n, depth);
     let mut next = first.next;
     let mut result = first.result;
-    while byte_is(text, next, 42) {
+    while byte_is(text, next, b'*') {
         let factor = read_power(text, next + 1, n, depth);
         let by = factor.result;
         let joined = coefficients::product(result, by);
@@ -174,13 +175,13 @@ pub fn read_sum(text: &[u8], at: usize, n: usize, depth: usize) -> Part
     requires { ⌜ SumAhead n (now text) at depth ⌝ }
     ensures { λ r. ⌜ (SumRead n (now (text .entry)) at depth (r .next) (resultAs (r .result))) × (Kept (r .result .cells)) ⌝ }
 {
-    let negative = byte_is(text, at, 45);
+    let negative = byte_is(text, at, b'-');
     let first = read_product(text, behind_sign(at, negative), n, depth);
     let mut next = first.next;
     let product = first.result;
     let mut result = signed(product, negative);
     while is_sign(text, next) {
-        let minus = byte_is(text, next, 45);
+        let minus = byte_is(text, next, b'-');
         let term = read_product(text, next + 1, n, depth);
         let product = term.result;
         let joined = coefficients::joined(result, minus, product);
