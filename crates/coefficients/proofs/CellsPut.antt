@@ -20,7 +20,7 @@ use Rattle.formula.specs.Polynomial.{slot, unitExponents, monomials, exponentsU
 use Rattle.formula.proofs.Weighted.{cell-zeros}
 use Rattle.rows.specs.Bounded.{Bounded}
 use Rattle.rows.proofs.TermAdded.{add-at-set}
-use Rattle.rows.proofs.RowsAdded.{zero-bounded}
+use Rattle.rows.proofs.Bounds.{zero-bounded}
 use Rattle.coefficients.specs.Result.{partsBound}
 
 set-size : {m : ℕ} (p : Polynomial) (k : ℕ) {x : ℤ} (j : ℕ) → Size m x → Size m (getD p j 0ℤ) → Size m (getD (set p k x) j 0ℤ)

@@ -18,6 +18,7 @@ use Rattle.paper.specs.Limits.{coefficientLimit}
 use Rattle.formula.specs.Polynomial.{Polynomial, monomialCount, cell, coefficientsWithin}
 use Rattle.formula.proofs.TermRead.{cell-within}
 use Rattle.rows.specs.Bounded.{Bounded}
+use Rattle.rows.proofs.Bounds.{bounded-more}
 use Rattle.coefficients.specs.Result.{Kept, partsBound}
 
 -- ---- bounds
@@ -31,6 +32,10 @@ part-back s = back-is s parts-word
 
 pub kept-bounded : {p : Polynomial} → Kept p → Bounded coefficientLimit p
 kept-bounded {p} k = record { long = k .long; each = λ j. record { size = cell-within p j (k .each) } }
+
+pub kept-part : {p : Polynomial} → Kept p → Bounded partsBound p
+unfolding partsBound coefficientLimit
+kept-part k = bounded-more (kept-bounded k) (lit≤ tt)
 
 -- ---- the coefficients from coefficient k on
 
@@ -55,8 +60,11 @@ module _ {p : Polynomial} (b : Bounded partsBound p) (k : ℕ) (h : k < 70) {n :
   pub within-stops : 1048576 < n → coefficientsWithin (drop k p) ≡ coefficientsWithin p → false ≡ coefficientsWithin p
   unfolding coefficientLimit
   within-stops l e =
-      sym (sym e ∙ first ∙ ap (λ (t : Bool). t && coefficientsWithin (drop (k + 1) p)) (lt-leb (natAbs (getD p k 0ℤ)) 1048576 (omega (arith, size-is))))
+      sym
+      (sym e ∙ first ∙ ap (λ (t : Bool). t && coefficientsWithin (drop (k + 1) p)) (lt-leb (natAbs (getD p k 0ℤ)) 1048576 (omega (arith, size-is))))
 
-pub within-ends : {p : Polynomial} → Bounded partsBound p → (k : ℕ) → 70 ≤ k → coefficientsWithin (drop k p) ≡ coefficientsWithin p → true ≡ coefficientsWithin p
+pub within-ends :
+    {p : Polynomial} → Bounded partsBound p → (k : ℕ) → 70 ≤ k → coefficientsWithin (drop k p) ≡ coefficientsWithin p
+    → true ≡ coefficientsWithin p
 unfolding coefficientsWithin every monomialCount
 within-ends {p} b k l e = sym (sym e ∙ ap coefficientsWithin (drop-of-length-le p {i = k} (omega (arith, b .long))))

@@ -20,7 +20,7 @@ use Rattle.formula.proofs.Sizes.{length-cellwise}
 use Rattle.formula.proofs.Weighted.{cell-cellwise}
 use Rattle.rows.specs.Bounded.{Bounded}
 use Rattle.rows.proofs.CoefficientBits.{coefficient-back}
-use Rattle.rows.proofs.RowsAdded.{zero-bounded}
+use Rattle.rows.proofs.Bounds.{zero-bounded}
 use Rattle.coefficients.specs.Result.{partsBound, joinedBy}
 use Rattle.coefficients.proofs.Limits.{part-back}
 use Rattle.coefficients.proofs.CellsPut.{set-bounded}

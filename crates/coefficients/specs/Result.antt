@@ -7,7 +7,7 @@ use mathlib.Core.Option.{Option, none, some}
 use lib.IntN.{ℤ}
 use lib.ListN.{length}
 use Rattle.exact.specs.Int.{_⊕_, _⊖_}
-use Rattle.formula.specs.Polynomial.{Polynomial, monomialCount, coefficientsWithin}
+use Rattle.formula.specs.Polynomial.{Polynomial, monomialCount, coefficientsWithin, fits, multiplied}
 use Rattle.rows.specs.Bounded.{termBound}
 use Rattle.coefficients.specs.declared.InnerResult as InnerResult
 
@@ -27,3 +27,7 @@ partsBound = 4900 * termBound
 -- the sum, or the difference
 unfoldable pub joinedBy : Bool → ℤ → ℤ → ℤ
 joinedBy minus = cond minus _⊖_ _⊕_
+
+-- the product within the limit of the degree, its coefficients not tested
+unfoldable pub unsettledProduct : Polynomial → Polynomial → Option Polynomial
+unsettledProduct p q = cond (fits p q) (some (multiplied p q)) none

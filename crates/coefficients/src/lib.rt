@@ -6,13 +6,14 @@ use rows;
 ghost use mathlib.Core.Path.{_≡_};
 ghost use mathlib.Core.Bool.{cond};
 ghost use mathlib.Core.Option.{none};
-ghost use Prim.Native.Nat.{_+_, _<_, _≤_};
+ghost use Prim.Native.Nat.{_<_, _≤_};
 ghost use Rattle.exact.specs.Size.{Size};
 ghost use Rattle.paper.specs.Limits.{coefficientLimit};
-ghost use Rattle.formula.specs.Polynomial.{zeroPolynomial, constant, variablePolynomial, sumOf, differenceOf, productOf, within, cellwise, coefficientsWithin, slot, unitExponents};
+ghost use Rattle.formula.specs.Polynomial.{zeroPolynomial, cellwise, coefficientsWithin, within, slot, unitExponents};
+ghost use Rattle.formula.specs.Polynomial.{constant, variablePolynomial, sumOf, differenceOf, productOf};
 ghost use Rattle.formula.specs.Meaning.{onResult, onResults, powerOf};
 ghost use Rattle.rows.specs.Bounded.{Bounded};
-ghost use Rattle.coefficients.specs.Result.{resultAs, Kept, partsBound, joinedBy};
+ghost use Rattle.coefficients.specs.Result.{resultAs, Kept, partsBound, joinedBy, unsettledProduct};
 
 pub struct InnerResult {
     pub fine: bool,
@@ -48,13 +49,18 @@ fn broken() -> InnerResult
     InnerResult { fine: false, cells }
 }
 
-// The result with these coefficients, if they are within the limit.
-fn settled(cells: [i64; 70]) -> InnerResult
-    requires { ⌜ Bounded partsBound cells ⌝ }
-    ensures { λ r. ⌜ (resultAs r ≡ within cells) × (Kept (r .cells)) ⌝ }
+// The same result, if its coefficients are within the limit.
+fn settled(p: InnerResult) -> InnerResult
+    requires { ⌜ Bounded partsBound (p .cells) ⌝ }
+    ensures { λ r. ⌜ (resultAs r ≡ onResult within (resultAs p)) × (Kept (r .cells)) ⌝ }
 {
+    let fine = p.fine;
+    if !fine {
+        return broken();
+    }
+    let cells = p.cells;
     if within(&cells) {
-        return InnerResult { fine: true, cells };
+        return p;
     }
     broken()
 }
@@ -66,7 +72,7 @@ pub fn constant(v: u64) -> InnerResult
 {
     let mut cells = rows::zeros();
     cells[0] = v as i64;
-    settled(cells)
+    settled(InnerResult { fine: true, cells })
 }
 
 // The monomial of the letter of an axis.
@@ -85,7 +91,7 @@ pub fn variable(a: usize) -> InnerResult
     let s = letter_slot(a);
     let mut cells = rows::zeros();
     cells[s] = 1;
-    settled(cells)
+    settled(InnerResult { fine: true, cells })
 }
 
 // The sum of two coefficients, or the difference.
@@ -129,7 +135,8 @@ pub fn joined(p: InnerResult, minus: bool, q: InnerResult) -> InnerResult
     }
     let a = p.cells;
     let b = q.cells;
-    settled(joined_cells(&a, minus, &b))
+    let cells = joined_cells(&a, minus, &b);
+    settled(InnerResult { fine: true, cells })
 }
 
 // The opposite.
@@ -143,13 +150,14 @@ pub fn opposite(q: InnerResult) -> InnerResult
     }
     let none = rows::zeros();
     let b = q.cells;
-    settled(joined_cells(&none, true, &b))
+    let cells = joined_cells(&none, true, &b);
+    settled(InnerResult { fine: true, cells })
 }
 
-// The product.
-pub fn product(p: InnerResult, q: InnerResult) -> InnerResult
+// The product, if it is within the limit of the degree; its coefficients are not tested.
+fn unsettled_product(p: InnerResult, q: InnerResult) -> InnerResult
     requires { ⌜ (Kept (p .cells)) × (Kept (q .cells)) ⌝ }
-    ensures { λ r. ⌜ (resultAs r ≡ onResults productOf (resultAs p) (resultAs q)) × (Kept (r .cells)) ⌝ }
+    ensures { λ r. ⌜ (resultAs r ≡ onResults unsettledProduct (resultAs p) (resultAs q)) × (Bounded partsBound (r .cells)) ⌝ }
 {
     let fine = p.fine;
     if !fine {
@@ -164,7 +172,16 @@ pub fn product(p: InnerResult, q: InnerResult) -> InnerResult
     if !rows::fits(&a, &b) {
         return broken();
     }
-    settled(rows::multiplied(&a, &b))
+    let cells = rows::multiplied(&a, &b);
+    InnerResult { fine: true, cells }
+}
+
+// The product.
+pub fn product(p: InnerResult, q: InnerResult) -> InnerResult
+    requires { ⌜ (Kept (p .cells)) × (Kept (q .cells)) ⌝ }
+    ensures { λ r. ⌜ (resultAs r ≡ onResults productOf (resultAs p) (resultAs q)) × (Kept (r .cells)) ⌝ }
+{
+    settled(unsettled_product(p, q))
 }
 
 // The power, multiplied once at a time.

@@ -1,9 +1,11 @@
-// The listing of document 01: reads one job from standard input and prints its lines. What is printed is `listinglines::put_listing`'s; here
+// The listing of document 01: reads one job from standard input and prints its lines. What is printed is `lines::put_listing`'s; here
 // is nothing but the reading and the writing.
+
+mod lines;
 
 ghost use mathlib.Core.Path.{_≡_};
 ghost use lib.ListN.{length};
-ghost use Rattle.listinglines.specs.Room.{jobRoom, placesRoom, textRoom};
+ghost use Rattle.listing.specs.Room.{jobRoom, placesRoom, textRoom};
 use libc::STDIN_FILENO;
 use libc::STDOUT_FILENO;
 
@@ -33,6 +35,6 @@ fn main() {
     let got = io::read_full(STDIN_FILENO, &mut input);
     let mut places = place_space();
     let mut out = text_space();
-    let end = listinglines::put_listing(&input[..got], &mut places, &mut out);
+    let end = lines::put_listing(&input[..got], &mut places, &mut out);
     io::write_all(STDOUT_FILENO, &out[..end]);
 }

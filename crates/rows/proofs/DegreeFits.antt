@@ -142,7 +142,8 @@ module _ (d : ℕ) (x : ℤ) (k : ℕ) where
     with-smaller l = rw (bits-nonzero x h, lt-leb d (degreeAt k) (omega arith))
 
 pub degree-next :
-    {p : Polynomial} (k : ℕ) {d r : ℕ} → Bounded coefficientLimit p → d ≡ degreeTo p k → r ≡ degreeWith d (back (getD p k 0ℤ)) k → r ≡ degreeTo p (k + 1)
+    {p : Polynomial} (k : ℕ) {d r : ℕ} → Bounded coefficientLimit p → d ≡ degreeTo p k → r ≡ degreeWith d (back (getD p k 0ℤ)) k
+    → r ≡ degreeTo p (k + 1)
 unfolding degreeTo cell
 degree-next {p} k {d} {r} b e h =
     h ∙ ap₂ (λ (y : ℕ) (x : ℤ). degreeWith y x k) e (coefficient-back (b .each k)) ∙ sym (ap (degreeTo p) (add-one k))

@@ -8,15 +8,13 @@ use mir.Syntax.{w64}
 use mir.Val.{ofZ}
 use Rattle.exact.specs.Int.{0ℤ}
 use Rattle.exact.specs.Size.{Size}
-use Rattle.exact.proofs.SizeLaws.{size-weaken, size-pos}
 use Rattle.exact.proofs.Bits.{back}
 use Rattle.paper.specs.Limits.{coefficientLimit}
 use Rattle.formula.specs.Polynomial.{Polynomial, monomialCount, cell, zeroPolynomial, unlessNought, addRow, addRows, multiplied}
-use Rattle.formula.proofs.Sizes.{length-zeros}
-use Rattle.formula.proofs.Weighted.{cell-zeros}
 use Rattle.rows.specs.Bounded.{Bounded, RowAdded, termBound, termAdded}
 use Rattle.rows.proofs.CoefficientBits.{coefficient-back, bits-zero, bits-nonzero}
-use Rattle.rows.proofs.TermAdded.{bounded-more, term-bounded}
+use Rattle.rows.proofs.Bounds.{bounded-more, zero-bounded}
+use Rattle.rows.proofs.TermAdded.{term-bounded}
 
 -- ---- a row
 
@@ -26,7 +24,9 @@ pub record RowTo (c : ℤ) (i : ℕ) (q r₀ : Polynomial) (k : ℕ) (r : Polyno
   pub bounded : Bounded ((70 * i + k) * termBound) r
   pub left : addRow c i q k (70 - k) r ≡ addRow c i q 0 70 r₀
 
-row-step : (c : ℤ) (i : ℕ) (q : Polynomial) (k m : ℕ) (r : Polynomial) → addRow c i q k (suc m) r ≡ addRow c i q (k + 1) m (termAdded c i (cell q k) k r)
+row-step :
+    (c : ℤ) (i : ℕ) (q : Polynomial) (k m : ℕ) (r : Polynomial)
+    → addRow c i q k (suc m) r ≡ addRow c i q (k + 1) m (termAdded c i (cell q k) k r)
 unfolding addRow termAdded
 row-step c i q k m r = refl
 
@@ -85,10 +85,6 @@ rows-none : (p q : Polynomial) (i : ℕ) (r : Polynomial) → addRows p q i 0 r 
 unfolding addRows
 rows-none p q i r = refl
 
-pub zero-bounded : (m : ℕ) → Bounded m zeroPolynomial
-unfolding zeroPolynomial
-zero-bounded m = record { long = length-zeros monomialCount; each = λ k. rw (cell-zeros monomialCount k) (size-weaken (size-pos 0) (omega arith)) }
-
 module _ {p q : Polynomial} where
   pub rows-start : {r : Polynomial} → r ≡ zeroPolynomial → RowsTo p q 0 r
   unfolding multiplied monomialCount
@@ -104,7 +100,9 @@ module _ {p q : Polynomial} where
       record {
         few = omega arith;
         bounded = e .bounded;
-        left = ap (addRows p q (i + 1) (70 - (i + 1))) is ∙ sym (rows-step p q i (70 - (i + 1)) r) ∙ ap (λ (m : ℕ). addRows p q i m r) (omega arith) ∙ t .left;
+        left =
+            ap (addRows p q (i + 1) (70 - (i + 1))) is ∙ sym (rows-step p q i (70 - (i + 1)) r)
+            ∙ ap (λ (m : ℕ). addRows p q i m r) (omega arith) ∙ t .left;
       }
 
   pub rows-end : {i : ℕ} {r : Polynomial} → RowsTo p q i r → 70 ≤ i → (r ≡ multiplied p q) × Bounded (4900 * termBound) r

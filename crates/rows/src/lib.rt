@@ -1,9 +1,9 @@
-// The product of two polynomials, a row of terms for each term of the first, and the test of its degree. A polynomial is an array of coefficients, one
-// for each monomial of degree at most 4.
+// The product of two polynomials, a row of terms for each term of the first, and the test of its degree. A polynomial is an array of coefficients,
+// one for each monomial of degree at most 4.
 
 use monomials;
 ghost use mathlib.Core.Path.{_≡_};
-ghost use Prim.Native.Nat.{_+_, _*_, _<_};
+ghost use Prim.Native.Nat.{_*_, _<_};
 ghost use Rattle.exact.specs.Size.{Size};
 ghost use Rattle.paper.specs.Limits.{coefficientLimit};
 ghost use Rattle.formula.specs.Polynomial.{monomialCount, zeroPolynomial, multiplied, fits};
@@ -28,7 +28,8 @@ fn add_term(r: &mut [i64; 70], c: i64, i: usize, x: i64, k: usize)
     }
     let s = monomials::product_slot(i, k);
     if s < 70 {
-        let sum = r[s] + c * x;
+        let more = c * x;
+        let sum = r[s] + more;
         r[s] = sum;
     }
 }

@@ -1,9 +1,11 @@
-// Every seam in the box of a job, as text: reads one job from standard input and prints its lines. What is printed is `seamlines::put_text`'s; here
+// Every seam in the box of a job, as text: reads one job from standard input and prints its lines. What is printed is `lines::put_text`'s; here
 // is nothing but the reading and the writing.
+
+mod lines;
 
 ghost use mathlib.Core.Path.{_≡_};
 ghost use lib.ListN.{length};
-ghost use Rattle.seamlines.specs.Room.{jobRoom, placesRoom, textRoom};
+ghost use Rattle.seams.specs.Room.{jobRoom, placesRoom, textRoom};
 use libc::STDIN_FILENO;
 use libc::STDOUT_FILENO;
 
@@ -33,6 +35,6 @@ fn main() {
     let got = io::read_full(STDIN_FILENO, &mut input);
     let mut places = place_space();
     let mut out = text_space();
-    let end = seamlines::put_text(&input[..got], &mut places, &mut out);
+    let end = lines::put_text(&input[..got], &mut places, &mut out);
     io::write_all(STDOUT_FILENO, &out[..end]);
 }

@@ -51,10 +51,12 @@ loop-less : tie.Need-loop-less Inv-loop μ-loop
 loop-less c = omega arith
 
 loop-again : tie.Need-loop-again Inv-loop μ-loop
-loop-again c = joined-next (c .before .before .before .before .loop .inv) (c .before .before .before .loop-test .taken) (c .before .before .before .before .before .before .pre .0) (c .before .before .before .before .before .before .pre .1) (c .joined-number .ensures)
+loop-again c =
+    let given = c .before .before .before .before .before .before .pre in
+    joined-next (c .before .before .before .before .loop .inv) (omega arith) (given .0) (given .1) (c .joined-number .ensures)
 
 returns : tie.Need-returns Inv-loop μ-loop
-returns c = joined-ends (c .before .loop .inv) (c .loop-test .left) (c .before .before .before .pre .0) (c .before .before .before .pre .1)
+returns c = joined-ends (c .before .loop .inv) (omega arith) (c .before .before .before .pre .0) (c .before .before .before .pre .1)
 
 pub joined-cells-spec : {M : Type 1} → statement M
 joined-cells-spec =

@@ -1,10 +1,12 @@
--- `coefficients::power` meets its contract. The loop's invariant: r is the power j.
+-- `coefficients::power` meets its contract. The loop's invariant: r is the power j. What the call in the loop needs and ensures is not named here, so
+-- that another call is refused for what it says.
 use Prim.Native.Nat.{_-_, _≤_}
 use mathlib.Core.Path.{_≡_, ap, _∙_}
 use native.Mathlib.Omega.{arith}
+use borrow.Author.Needs.{needs}
 use Rattle.formula.specs.Meaning.{powerOf}
 use Rattle.coefficients.specs.Result.{resultAs, Kept}
-use Rattle.coefficients.proofs.Results.{on-missing, on-there, power-starts, power-next}
+use Rattle.coefficients.proofs.Results.{same-missing, on-there, power-starts, power-next}
 use Rattle.coefficients.proofs.power.Statement.{statement}
 use Rattle.coefficients.proofs.power.Tie as tie
 
@@ -15,7 +17,7 @@ abbrev μ-loop : tie.MeasureT-loop
 μ-loop p k fine r₀ j₀ r j = k - j
 
 returns : tie.Need-returns Inv-loop μ-loop
-returns c = (on-missing (λ x. powerOf x (c .before .args .k)) (c .before .args .p) (c .if1 .taken), c .before .pre .0)
+returns c = (same-missing (λ x. powerOf x (c .before .args .k)) (c .before .args .p) (c .if1 .taken), c .before .pre .0)
 
 constant-requires : tie.Need-constant-requires Inv-loop μ-loop
 constant-requires c κs = omega arith
@@ -23,9 +25,6 @@ constant-requires c κs = omega arith
 loop-holds : tie.Need-loop-holds Inv-loop μ-loop
 loop-holds c =
     (omega arith, (c .constant .ensures .0 ∙ power-starts (c .before .before .args .p .cells), c .constant .ensures .1))
-
-product-requires : tie.Need-product-requires Inv-loop μ-loop
-product-requires c κs = (c .before .loop .inv .1 .1, c .before .before .before .before .pre .0)
 
 add-j : tie.Need-add-j Inv-loop μ-loop
 add-j c = omega (arith, c .before .before .before .before .before .pre .1)
@@ -35,8 +34,11 @@ loop-less c = omega arith
 
 loop-again : tie.Need-loop-again Inv-loop μ-loop
 loop-again c =
-    let loop = c .before .before .loop in
-    (omega arith, (power-next (c .before .before .before .before .before .args .p) (loop .j) (c .before .before .before .before .if1 .left) (loop .inv .1 .0) (c .product .ensures .0), c .product .ensures .1))
+    let fine = c .before .before .before .before in
+    let loop = c .before .before .loop in (
+      omega arith,
+      (power-next (fine .before .args .p) (loop .j) (fine .if1 .left) (loop .inv .1 .0) (search needs), search needs),
+    )
 
 returns-2 : tie.Need-returns-2 Inv-loop μ-loop
 returns-2 c =
@@ -56,7 +58,7 @@ power-spec =
     returns
     constant-requires
     loop-holds
-    product-requires
+    (λ c κs. (c .before .loop .inv .1 .1, c .before .before .before .before .pre .0))
     add-j
     loop-less
     loop-again

@@ -2,6 +2,8 @@
 use mathlib.Core.Path.{_∙_}
 use native.Mathlib.Omega.{arith}
 use borrow.Author.Needs.{needs}
+use Rattle.formula.specs.Meaning.{onResult}
+use Rattle.coefficients.specs.Result.{resultAs}
 use Rattle.coefficients.proofs.CellsPut.{letter-bounded, letter-put}
 use Rattle.coefficients.proofs.variable.Statement.{statement}
 use Rattle.coefficients.proofs.variable.Tie as tie
@@ -22,8 +24,11 @@ settled-requires : tie.Need-settled-requires
 settled-requires c κs = letter-bounded (c .zeros .ensures) (c .before .letter-slot .result)
 
 returns : tie.Need-returns
+unfolding onResult resultAs
 returns c =
-    (c .settled .ensures .0 ∙ letter-put (c .before .zeros .ensures) (c .before .before .before .args .a) (c .before .before .letter-slot .ensures .0), c .settled .ensures .1)
+    let made = c .before in
+    let found = made .before in
+    (c .settled .ensures .0 ∙ letter-put (made .zeros .ensures) (found .before .args .a) (found .letter-slot .ensures .0), c .settled .ensures .1)
 
 pub variable-spec : {M : Type 1} → statement M
 variable-spec =

@@ -30,7 +30,8 @@ size-requires c κs = search needs
 returns : tie.Need-returns Inv-loop μ-loop
 returns c =
     let loop = c .before .before .before .before .loop in
-    within-stops (c .before .before .before .before .before .pre) (loop .k) (c .before .before .before .loop-test .taken) (c .before .size .ensures) (omega (arith, c .if1 .taken)) (loop .inv .1)
+    within-stops (c .before .before .before .before .before .pre) (loop .k) (omega arith) (c .before .size .ensures)
+    (omega (arith, c .if1 .taken)) (loop .inv .1)
 
 add-k : tie.Need-add-k Inv-loop μ-loop
 add-k c = omega arith
@@ -40,11 +41,14 @@ loop-less c = omega arith
 
 loop-again : tie.Need-loop-again Inv-loop μ-loop
 loop-again c =
-    let loop = c .before .before .before .before .loop in
-    (omega arith, within-next (c .before .before .before .before .before .pre) (loop .k) (c .before .before .before .loop-test .taken) (c .before .size .ensures) (omega (arith, c .if1 .left)) (loop .inv .1))
+    let loop = c .before .before .before .before .loop in (
+      omega arith,
+      within-next (c .before .before .before .before .before .pre) (loop .k) (omega arith) (c .before .size .ensures)
+          (omega (arith, c .if1 .left)) (loop .inv .1),
+    )
 
 returns-2 : tie.Need-returns-2 Inv-loop μ-loop
-returns-2 c = within-ends (c .before .before .pre) (c .before .loop .k) (c .loop-test .left) (c .before .loop .inv .1)
+returns-2 c = within-ends (c .before .before .pre) (c .before .loop .k) (omega arith) (c .before .loop .inv .1)
 
 pub within-spec : {M : Type 1} → statement M
 within-spec =

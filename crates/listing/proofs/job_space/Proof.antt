@@ -1,6 +1,6 @@
 -- `listing::job_space` meets its contract: so many zeros are the room for the longest job and one byte more.
 use mathlib.Core.Path.{_∙_}
-use Rattle.listinglines.proofs.RoomSizes.{job-room, zeros-long}
+use Rattle.listing.proofs.RoomSizes.{job-room, zeros-long}
 use Rattle.listing.proofs.job_space.Statement.{statement}
 use Rattle.listing.proofs.job_space.Tie as tie
 

@@ -1,6 +1,6 @@
 -- `listing::place_space` meets its contract: so many zeros are the room for the places.
 use mathlib.Core.Path.{_∙_}
-use Rattle.listinglines.proofs.RoomSizes.{places-room, zeros-long}
+use Rattle.listing.proofs.RoomSizes.{places-room, zeros-long}
 use Rattle.listing.proofs.place_space.Statement.{statement}
 use Rattle.listing.proofs.place_space.Tie as tie
 

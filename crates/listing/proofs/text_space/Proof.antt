@@ -1,6 +1,6 @@
 -- `listing::text_space` meets its contract: so many zeros are the room for the lines.
 use mathlib.Core.Path.{_∙_}
-use Rattle.listinglines.proofs.RoomSizes.{text-room, zeros-long}
+use Rattle.listing.proofs.RoomSizes.{text-room, zeros-long}
 use Rattle.listing.proofs.text_space.Statement.{statement}
 use Rattle.listing.proofs.text_space.Tie as tie
 

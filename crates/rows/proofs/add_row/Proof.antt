@@ -5,7 +5,7 @@ use mir.Syntax.{w64}
 use mir.Val.{toZ}
 use Rattle.formula.specs.Polynomial.{monomialCount, cell}
 use Rattle.rows.proofs.CoefficientBits.{coefficient-held}
-use Rattle.rows.proofs.TermAdded.{bounded-more}
+use Rattle.rows.proofs.Bounds.{bounded-more}
 use Rattle.rows.proofs.RowsAdded.{RowTo, row-starts, row-next, row-skipped, row-ends}
 use Rattle.rows.proofs.add_row.Statement.{statement}
 use Rattle.rows.proofs.add_row.Tie as tie
@@ -48,12 +48,12 @@ loop-again : tie.Need-loop-again Inv-loop μ-loop
 loop-again c =
     let start = c .before .before .before .before .before .before in
     let given = start .pre .0 in
-    row-next (c .before .before .before .before .loop .inv) (c .before .before .before .loop-test .taken) (coefficient-held (given .1 .0)) (given .1 .1)
+    row-next (c .before .before .before .before .loop .inv) (omega arith) (coefficient-held (given .1 .0)) (given .1 .1)
     (c .add-term .ensures)
 
 returns-2 : tie.Need-returns-2 Inv-loop μ-loop
 returns-2 c =
-    row-ends (c .before .before .before .pre .0 .1 .0) (c .before .before .if1 .left) (c .before .loop .inv) (c .loop-test .left)
+    row-ends (c .before .before .before .pre .0 .1 .0) (c .before .before .if1 .left) (c .before .loop .inv) (omega arith)
 
 pub add-row-spec : {M : Type 1} → statement M
 add-row-spec =

@@ -1,4 +1,4 @@
--- `rows::add_term` meets its contract.
+-- `rows::add_term` meets its contract. What the write needs is not named here, so that another number written is refused for what it is.
 use borrow.Author.Needs.{needs}
 use Rattle.rows.proofs.TermAdded.{term-none, product-fits, sum-fits, term-put, term-outside}
 use Rattle.rows.proofs.add_term.Statement.{statement}
@@ -10,29 +10,23 @@ returns c = term-none (c .before .pre .1 .1 .0) (c .before .pre .1 .1 .1) (c .be
 product-slot-requires : tie.Need-product-slot-requires
 product-slot-requires c κs = c .before .pre .0
 
+mul-more : tie.Need-mul-more
+mul-more c =
+    let start = c .before .before .before in
+    let sizes = start .pre .1 in
+    product-fits (sizes .1 .0) (sizes .1 .1)
+
 mul-sum : tie.Need-mul-sum
 mul-sum c = search needs
 
 element-copy-out-sum : tie.Need-element-copy-out-sum
 element-copy-out-sum c = search needs
 
-mul-sum-2 : tie.Need-mul-sum-2
-mul-sum-2 c =
-    let start = c .before .before .before .before in
-    let sizes = start .pre .1 in
-    product-fits (sizes .1 .0) (sizes .1 .1) (start .args .i) (start .args .k) (sizes .0) (c .before .before .product-slot .ensures)
-
 add-sum : tie.Need-add-sum
 add-sum c =
     let start = c .before .before .before .before in
     let sizes = start .pre .1 in
     sum-fits (sizes .1 .0) (sizes .1 .1) (start .args .i) (start .args .k) (sizes .0) (c .before .before .product-slot .ensures)
-
-mul-sum-3 : tie.Need-mul-sum-3
-mul-sum-3 c = search needs
-
-element-set-from-sum : tie.Need-element-set-from-sum
-element-set-from-sum c = search needs
 
 returns-2 : tie.Need-returns-2
 returns-2 c =
@@ -54,11 +48,11 @@ add-term-spec =
     (tie.spec
     returns
     product-slot-requires
+    mul-more
     mul-sum
     element-copy-out-sum
-    mul-sum-2
     add-sum
-    mul-sum-3
-    element-set-from-sum
+    (λ c. search needs)
+    (λ c. search needs)
     returns-2
     returns-3)

@@ -41,7 +41,7 @@ loop-again c =
     (omega arith, degree-next (loop .k) (c .before .before .before .before .pre) (loop .inv .1) (c .degree-with .ensures))
 
 returns : tie.Need-returns Inv-loop μ-loop
-returns c = degree-ends (c .before .before .args .p .now) (c .before .loop .inv .1) (c .before .loop .inv .0) (c .loop-test .left)
+returns c = degree-ends (c .before .before .args .p .now) (c .before .loop .inv .1) (c .before .loop .inv .0) (omega arith)
 
 pub degree-spec : {M : Type 1} → statement M
 degree-spec =

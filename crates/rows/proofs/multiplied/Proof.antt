@@ -41,11 +41,11 @@ loop-less c = omega arith
 
 loop-again : tie.Need-loop-again Inv-loop μ-loop
 loop-again c =
-    rows-next (c .before .before .before .before .loop .inv) (c .before .before .before .loop-test .taken)
+    rows-next (c .before .before .before .before .loop .inv) (omega arith)
     (c .before .before .before .before .before .before .pre .0) (c .add-row .ensures)
 
 returns : tie.Need-returns Inv-loop μ-loop
-returns c = rows-end (c .before .loop .inv) (c .loop-test .left)
+returns c = rows-end (c .before .loop .inv) (omega arith)
 
 pub multiplied-spec : {M : Type 1} → statement M
 multiplied-spec =

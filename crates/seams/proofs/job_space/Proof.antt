@@ -1,6 +1,6 @@
 -- `seams::job_space` meets its contract: so many zeros are the room for the longest job and one byte more.
 use mathlib.Core.Path.{_∙_}
-use Rattle.seamlines.proofs.RoomSizes.{job-room, zeros-long}
+use Rattle.seams.proofs.RoomSizes.{job-room, zeros-long}
 use Rattle.seams.proofs.job_space.Statement.{statement}
 use Rattle.seams.proofs.job_space.Tie as tie
 

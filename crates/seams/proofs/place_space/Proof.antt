@@ -1,6 +1,6 @@
 -- `seams::place_space` meets its contract: so many zeros are the room for the places.
 use mathlib.Core.Path.{_∙_}
-use Rattle.seamlines.proofs.RoomSizes.{places-room, zeros-long}
+use Rattle.seams.proofs.RoomSizes.{places-room, zeros-long}
 use Rattle.seams.proofs.place_space.Statement.{statement}
 use Rattle.seams.proofs.place_space.Tie as tie
 

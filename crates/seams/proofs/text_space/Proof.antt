@@ -1,6 +1,6 @@
 -- `seams::text_space` meets its contract: so many zeros are the room for the lines.
 use mathlib.Core.Path.{_∙_}
-use Rattle.seamlines.proofs.RoomSizes.{text-room, zeros-long}
+use Rattle.seams.proofs.RoomSizes.{text-room, zeros-long}
 use Rattle.seams.proofs.text_space.Statement.{statement}
 use Rattle.seams.proofs.text_space.Tie as tie
 
