@@ -1,20 +1,15 @@
 -- Marked texts, by computation from the definitions: refusals, then term lists. What the first two definitions unfold is all that is computed with.
-use Prim.Native.Nat.{ℕ, zero, suc, _+_, _*_, _-_}
+use Prim.Native.Nat.{ℕ, _-_}
 use mathlib.Core.Path.{_≡_, refl}
-use mathlib.Core.Bool.{Bool, true, false, not, cond, _&&_, _||_}
-use mathlib.Core.List.{List, [], _∷_, map, flatMap}
-use mathlib.Core.Option.{some, none}
-use lib.IntN.{pos}
-use lib.Dec.{eqb, leb, ltb}
-use lib.ListN.{length, getD}
+use mathlib.Core.List.{List, [], _∷_, flatMap}
 use Rattle.exact.specs.Int.{_⊕_, _⊖_, _⊗_, neg}
 use Rattle.exact.specs.Crossed.{countFrom}
 use Rattle.curves.specs.Step.{every}
 use Rattle.paper.specs.Limits.{dimensionOk, degreeLimit, coefficientLimit}
 use Rattle.paper.specs.Job.{refuseIf, allFrom}
 use Rattle.paper.specs.RunningSum.{exponentSum}
-use Rattle.paper.specs.Operations.{Answer, unless, answered, refused}
-use Rattle.formula.specs.Grammar.{axisOf, isLetter, larger, nesting}
+use Rattle.paper.specs.Operations.{Answer, unless, answered}
+use Rattle.formula.specs.Grammar.{axisOf, isLetter}
 use Rattle.formula.specs.Reader.{token, sumWith, productWith, closed, stepSum, stepProduct, stepAtom, stepNumber, stepCaret, stepExpect, step, ends, finish, run, readingOf}
 use Rattle.formula.specs.Polynomial.{exponentsUpTo, monomials, monomialCount, exponentsAt, degreeAt, sumExponents, sameExponents, positionIn, slot, productSlot, cell, isZero, zeros, zeroPolynomial, addAt, single, unlessNought, cellwise, addRow, addRows, multiplied, rowFits, fits, coefficientsWithin, within, constant, unitExponents, variablePolynomial, sumOf, differenceOf, productOf}
 use Rattle.formula.specs.Meaning.{onResult, onResults, powerOf, evaluate, unlessZero}

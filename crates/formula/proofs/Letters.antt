@@ -4,7 +4,6 @@ use mathlib.Core.Path.{_≡_, refl}
 use mathlib.Core.Bool.{Bool, true, false, cond, _&&_, _||_}
 use mathlib.Core.List.{List}
 use lib.Dec.{eqb, ltb, lit<}
-use borrow.Author.Tests.{lt-ltb}
 use Rattle.exact.proofs.AndTests.{and-right, and-true}
 use Rattle.formula.specs.Grammar.{Formula, number, letter, parens, raised, times, plus, minus, negative, axisOf, isLetter, Kind, Text, of-number, of-letter, of-parens, of-atom, of-raised, of-power, of-times, of-product, of-negative, of-plus, of-minus}
 
@@ -53,6 +52,3 @@ under m l (of-minus t w) = and-true (under m l t) (under m l w)
 
 pub letters-under : {n : ℕ} {k : Kind} {f : Formula} {s : List ℕ} → Text n k f s → lettersUnder n f ≡ true
 letters-under {n} t = under n (letter-under n) t
-
-pub letters-under-four : {n : ℕ} {k : Kind} {f : Formula} {s : List ℕ} → Text n k f s → lettersUnder 4 f ≡ true
-letters-under-four t = under 4 (λ b h. lt-ltb (axisOf b) 4 (axis-under-four b)) t

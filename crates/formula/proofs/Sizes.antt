@@ -97,11 +97,11 @@ pub variable-kept : (a : ℕ) {r : Polynomial} → variablePolynomial a ≡ some
 unfolding variablePolynomial
 variable-kept a h = within-kept _ (length-single (slot (unitExponents a)) 1ℤ) h
 
-pub sum-kept : (p q : Polynomial) {r : Polynomial} → length p ≡ monomialCount → length q ≡ monomialCount → sumOf p q ≡ some r → Kept r
+sum-kept : (p q : Polynomial) {r : Polynomial} → length p ≡ monomialCount → length q ≡ monomialCount → sumOf p q ≡ some r → Kept r
 unfolding sumOf
 sum-kept p q lp lq h = within-kept _ (length-cellwise _⊕_ p q (lp ∙ sym lq) ∙ lp) h
 
-pub difference-kept : (p q : Polynomial) {r : Polynomial} → length p ≡ monomialCount → length q ≡ monomialCount → differenceOf p q ≡ some r → Kept r
+difference-kept : (p q : Polynomial) {r : Polynomial} → length p ≡ monomialCount → length q ≡ monomialCount → differenceOf p q ≡ some r → Kept r
 unfolding differenceOf
 difference-kept p q lp lq h = within-kept _ (length-cellwise _⊖_ p q (lp ∙ sym lq) ∙ lp) h
 

@@ -179,15 +179,8 @@ module _ (i k : ℕ) (u : i < monomialCount) (w : k < monomialCount) where
   product-length =
       length-sum (exponentsAt i) (exponentsAt k) (monomial-length i u ∙ sym (monomial-length k w)) ∙ monomial-length i u
 
-  -- a product has a place exactly if its degree is within the limit
+  -- a product whose degree is within the limit has a place
   pub product-placed : degreeAt i + degreeAt k ≤ degreeLimit → productSlot i k < monomialCount
   unfolding productSlot
   product-placed h =
       slot-found (sumExponents (exponentsAt i) (exponentsAt k)) product-length (subst (λ (d : ℕ). d ≤ degreeLimit) (sym product-degree) h)
-
-  pub placed-product : productSlot i k < monomialCount → degreeAt i + degreeAt k ≤ degreeLimit
-  unfolding productSlot degreeAt
-  placed-product h =
-      let e : List ℕ = sumExponents (exponentsAt i) (exponentsAt k) in
-      let same : degreeAt (slot e) ≡ degreeAt i + degreeAt k = ap exponentSum (slot-holds e h) ∙ product-degree in
-      subst (λ (d : ℕ). d ≤ degreeLimit) same (monomial-degree (slot e) h)

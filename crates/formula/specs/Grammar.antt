@@ -1,6 +1,6 @@
 -- The language of formulas: document 02, request 2.1, with the letter w of request 2.12. A text is the list of its bytes. What a text is, is said here
 -- without a reader.
-use Prim.Native.Nat.{ℕ, suc, zero, _+_, _*_, _≤_, _<_}
+use Prim.Native.Nat.{ℕ, suc, _+_, _*_, _≤_, _<_}
 use mathlib.Core.Path.{_≡_}
 use mathlib.Core.Bool.{Bool, true, cond, _&&_, _||_}
 use mathlib.Core.List.{List, [], _∷_, _++_}

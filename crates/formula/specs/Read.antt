@@ -1,5 +1,5 @@
 -- Reading a formula: document 02, request 2.1. The result is a job's term list.
-use Prim.Native.Nat.{ℕ, suc, zero, _+_, _*_, _-_, _/_, _%_}
+use Prim.Native.Nat.{ℕ, suc, zero, _+_, _-_, _/_, _%_}
 use mathlib.Core.Bool.{Bool, true, false, not, cond}
 use mathlib.Core.List.{List, [], _∷_, _++_}
 use mathlib.Core.Option.{Option, none, some}

@@ -1,6 +1,6 @@
 -- A reader of the language, one step a byte. That it reads exactly the texts of Grammar.antt, with their readings, is proved (`formula-read`,
 -- `read-formula`).
-use Prim.Native.Nat.{ℕ, suc, zero, _+_, _*_, _-_}
+use Prim.Native.Nat.{ℕ, suc, _+_, _*_, _-_}
 use mathlib.Core.Bool.{Bool, true, false, cond, _&&_}
 use mathlib.Core.List.{List, [], _∷_}
 use lib.ListN.{length}

@@ -1,19 +1,19 @@
 -- What each reader does, in the words of its contract: one law for each place where it goes on or returns.
-use Prim.Native.Nat.{ℕ, suc, zero, _+_, _*_, _-_, _^_, _≤_, _<_}
+use Prim.Native.Nat.{ℕ, suc, _+_, _*_, _-_, _^_, _≤_, _<_}
 use mathlib.Core.Path.{_≡_, refl, sym, ap, subst, _∙_}
 use mathlib.Core.Bool.{Bool, true, false, cond, _&&_, _||_, true≢false}
 use mathlib.Core.List.{List, [], _∷_}
-use mathlib.Core.Option.{Option, some}
+use mathlib.Core.Option.{Option}
 use native.Mathlib.Omega.{arith}
 use native.Mathlib.Numerals.{unary-clauses}
 use native.Mathlib.Nat.{pow-le-pow-right, le-trans}
 use lib.Dec.{lit<}
-use lib.Dec.{eqb, leb, ltb}
+use lib.Dec.{leb, ltb}
 use lib.ListN.{length, getD}
-use borrow.Author.Tests.{eqb-false, leb-true, ltb-true, ltb-false, le-leb, le-ltb}
+use borrow.Author.Tests.{leb-true, ltb-true, ltb-false, le-leb}
 use Rattle.exact.proofs.AndTests.{and-left, and-right, and-true}
-use Rattle.formula.specs.Grammar.{Formula, number, letter, parens, raised, times, plus, minus, negative, isLetter, axisOf}
-use Rattle.formula.specs.Polynomial.{Polynomial, constant, variablePolynomial, sumOf, differenceOf, productOf, zeroPolynomial}
+use Rattle.formula.specs.Grammar.{Formula, number, letter, parens, raised, times, isLetter, axisOf}
+use Rattle.formula.specs.Polynomial.{Polynomial, constant, variablePolynomial, sumOf, differenceOf, productOf}
 use Rattle.formula.specs.Meaning.{onResult, onResults, powerOf, evaluate}
 use Rattle.formula.specs.Reader.{Token, digit, variable, opening, closing, star, plusSign, minusSign, caret, foreign, token, Left, none, negated, added, taken, Factor, one, by, Level, State, expect, inNumber, afterAtom, afterCaret, inProduct, inSum, failed, Reading, sumWith, productWith, closed, stepSum, stepProduct, stepAtom, stepNumber, stepCaret, stepExpect, step, ends, finish, readingOf, reads}
 use Rattle.formula.specs.Read.{nestingLimit, isRead}

@@ -1,6 +1,6 @@
 -- What a reader is asked and what it answers: in the words of the machine that reads one byte a step (`run` of the crate formula), so that what one
 -- reader has read is one state of it. A text is read in dimension n, from byte `at` on, at a depth of open parentheses.
-use Prim.Native.Nat.{ℕ, suc, zero, _+_, _*_, _-_, _^_, _≤_, _<_}
+use Prim.Native.Nat.{ℕ, _-_, _^_, _≤_, _<_}
 use mathlib.Core.Path.{_≡_}
 use mathlib.Core.Bool.{Bool, true, false, cond, _&&_}
 use mathlib.Core.List.{List, []}

@@ -7,10 +7,10 @@ use mathlib.Core.Option.{Option, none, some}
 use Rattle.curves.specs.Step.{every}
 use Rattle.paper.specs.Limits.{dimensionOk}
 use Rattle.paper.specs.Job.{refuseIf}
-use Rattle.paper.specs.Operations.{Answer, refused, answered, unless}
+use Rattle.paper.specs.Operations.{refused, answered, unless}
 use Rattle.formula.specs.Reader.{Reading, outside, reads, readingOf}
 use Rattle.formula.specs.Polynomial.{Polynomial, isZero}
-use Rattle.formula.specs.Meaning.{evaluate, onResult, unlessZero}
+use Rattle.formula.specs.Meaning.{onResult, unlessZero}
 use Rattle.formula.specs.Read.{nestingLimit, isRead, inLanguage, resultOf, polynomialOf, isNone, formulaRefusal, termsOfResult, termList, formulaTerms}
 use Rattle.termbytes.specs.Terms.{answerOf}
 use Rattle.coefficients.specs.declared.InnerResult as InnerResult

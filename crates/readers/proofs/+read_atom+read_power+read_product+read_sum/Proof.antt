@@ -1,16 +1,15 @@
 -- The four readers meet their contracts, by one induction: the remaining text falls, and within one byte sum, product, power and atom stand in this order.
 use Prim.Native.Nat.{ℕ, _+_, _*_, _-_, _<_}
-use mathlib.Core.Path.{_≡_, refl, sym, ap, _∙_}
-use mathlib.Core.Bool.{Bool, true, false, _||_}
+use mathlib.Core.Path.{sym, ap, _∙_}
 use native.Mathlib.Omega.{arith}
-use lib.ListN.{length, getD}
+use lib.ListN.{length}
 use borrow.Author.Needs.{needs}
 use Rattle.coefficients.specs.Result.{resultAs, Kept}
-use Rattle.readers.specs.Ahead.{byteIs, isDigit, AtomAhead, ProductSoFar, SumSoFar}
+use Rattle.readers.specs.Ahead.{ProductSoFar, SumSoFar}
 use Rattle.formula.specs.Polynomial.{variablePolynomial}
 use Rattle.formula.proofs.Letters.{axis-under-four}
 use Rattle.readers.proofs.Machine.{byte-is-inside}
-use Rattle.readers.proofs.Steps.{atom-inside, open-under, sum-opens, parens-inside, parens-read, letter-read, number-atom, power-plain, Exponent, exponent-here, power-raised, product-begins, product-first, product-next, product-longer, product-ends, sum-inside, sign-behind, sum-begins, sum-first, sign-inside, sum-next, sum-longer, sum-ends}
+use Rattle.readers.proofs.Steps.{atom-inside, open-under, sum-opens, parens-inside, parens-read, letter-read, number-atom, power-plain, exponent-here, power-raised, product-begins, product-first, product-next, product-longer, product-ends, sum-inside, sign-behind, sum-begins, sum-first, sign-inside, sum-next, sum-longer, sum-ends}
 use borrow.Fn.Kinds.{In}
 use borrow.Fn.PlainCycle.{Measures, is, falls, and}
 use Rattle.readers.proofs.read_atom.Reads as read-atom

@@ -1,4 +1,4 @@
-use mathlib.Core.Path.{refl, sym, ap}
+use mathlib.Core.Path.{sym, ap}
 use borrow.Author.Tests.{ne-eqb}
 use Rattle.formula.specs.Grammar.{axisOf}
 use Rattle.readers.proofs.axis_of.Statement.{statement}

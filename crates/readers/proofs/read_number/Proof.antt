@@ -1,8 +1,8 @@
-use mathlib.Core.Path.{_≡_, sym, subst, _∙_}
+use mathlib.Core.Path.{_≡_, sym, _∙_}
 use mathlib.Core.Bool.{true}
-use Prim.Native.Nat.{_+_, _-_}
+use Prim.Native.Nat.{_-_}
 use native.Mathlib.Omega.{arith}
-use lib.ListN.{length, getD}
+use lib.ListN.{length}
 use borrow.Author.Needs.{needs}
 use Rattle.readers.specs.Ahead.{isDigit, NumberSoFar}
 use Rattle.readers.proofs.Steps.{DigitHere, digit-here, number-first, number-longer, number-small, number-ends}

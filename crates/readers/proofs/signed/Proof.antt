@@ -1,4 +1,4 @@
-use mathlib.Core.Path.{refl, _∙_}
+use mathlib.Core.Path.{refl}
 use Rattle.readers.specs.Ahead.{signedBy}
 use Rattle.readers.proofs.signed.Statement.{statement}
 use Rattle.readers.proofs.signed.Tie as tie

@@ -1,4 +1,4 @@
-use mathlib.Core.Path.{_≡_, refl, sym, ap, _∙_}
+use mathlib.Core.Path.{sym, ap, _∙_}
 use borrow.Author.Tests.{not-true, not-false}
 use Rattle.formula.specs.Read.{nestingLimit, inLanguage, handedBack}
 use Rattle.readers.proofs.Steps.{sum-whole, read-whole}
@@ -6,13 +6,6 @@ use Rattle.termlist.proofs.Answered.{answers-3, answers-14, answers-dee
 use borrow.Author.Needs.{needs}
 use Rattle.termlist.proofs.read_formula.Statement.{statement}
 use Rattle.termlist.proofs.read_formula.Tie as tie
-use Rattle.termlist.proofs.read_formula.Reads as reads
-use Rattle.termlist.proofs.read_formula.Lts as lts
-use Rattle.limits.proofs.dimension_ok.Reads as dimension-ok-reads
-use Rattle.readers.proofs.read_sum.Reads as read-sum-reads
-use Rattle.language.proofs.passes.Reads as passes-reads
-use Rattle.termlist.proofs.refusal.Reads as refusal-reads
-use Rattle.termbytes.proofs.terms_of.Reads as terms-of-reads
 
 dimension-ok-requires : tie.Need-dimension-ok-requires
 dimension-ok-requires c κs = search needs

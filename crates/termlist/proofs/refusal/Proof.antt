@@ -1,4 +1,4 @@
-use mathlib.Core.Path.{refl, ap}
+use mathlib.Core.Path.{refl}
 use borrow.Author.Needs.{needs}
 use Rattle.formula.specs.Read.{handedBack}
 use Rattle.formula.specs.Answers.{handedAs}
