@@ -15,11 +15,11 @@ use Rattle.exact.specs.Size.{Size}
 use Rattle.exact.proofs.Bits.{back, back-is}
 use Rattle.curves.specs.Step.{every}
 use Rattle.paper.specs.Limits.{coefficientLimit}
-use Rattle.formula.specs.Polynomial.{Polynomial, monomialCount, cell, coefficientsWithin}
+use Rattle.formula.specs.Polynomial.{Kept, Polynomial, monomialCount, cell, coefficientsWithin}
 use Rattle.formula.proofs.TermRead.{cell-within}
 use Rattle.rows.specs.Bounded.{Bounded}
 use Rattle.rows.proofs.Bounds.{bounded-more}
-use Rattle.coefficients.specs.Result.{Kept, partsBound}
+use Rattle.coefficients.specs.Result.{partsBound}
 
 -- ---- bounds
 
@@ -31,7 +31,7 @@ pub part-back : {x : ℤ} → Size partsBound x → back x ≡ x
 part-back s = back-is s parts-word
 
 pub kept-bounded : {p : Polynomial} → Kept p → Bounded coefficientLimit p
-kept-bounded {p} k = record { long = k .long; each = λ j. record { size = cell-within p j (k .each) } }
+kept-bounded {p} k = record { long = k .0; each = λ j. record { size = cell-within p j (k .1) } }
 
 pub kept-part : {p : Polynomial} → Kept p → Bounded partsBound p
 unfolding partsBound coefficientLimit

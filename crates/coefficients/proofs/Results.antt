@@ -7,13 +7,13 @@ use native.Mathlib.Numerals.{add-one}
 use borrow.Author.Tests.{not-true, not-false}
 use Rattle.curves.specs.Step.{every}
 use Rattle.paper.specs.Limits.{coefficientLimit}
-use Rattle.formula.specs.Polynomial.{Polynomial, monomialCount, zeros, zeroPolynomial, cellwise, coefficientsWithin, within, fits, multiplied}
+use Rattle.formula.specs.Polynomial.{Kept, Polynomial, monomialCount, zeros, zeroPolynomial, cellwise, coefficientsWithin, within, fits, multiplied}
 use Rattle.formula.specs.Polynomial.{constant, sumOf, differenceOf, productOf}
 use Rattle.formula.specs.Meaning.{onResult, onResults, powerOf}
 use Rattle.formula.proofs.Sizes.{length-zeros}
 use Rattle.rows.specs.Bounded.{Bounded}
 use Rattle.coefficients.specs.declared.InnerResult as InnerResult
-use Rattle.coefficients.specs.Result.{resultAs, Kept, partsBound, joinedBy, unsettledProduct}
+use Rattle.coefficients.specs.Result.{resultAs, partsBound, joinedBy, unsettledProduct}
 
 -- ---- an operation on results
 
@@ -57,7 +57,7 @@ module _ (o : Polynomial → Polynomial → Option Polynomial) (p q : InnerResul
 
 zero-kept : Kept zeroPolynomial
 unfolding zeroPolynomial zeros monomialCount coefficientsWithin every coefficientLimit
-zero-kept = record { long = length-zeros 70; each = refl }
+zero-kept = (length-zeros 70, refl)
 
 pub result-broken : {z : Polynomial} → z ≡ zeroPolynomial → (resultAs (record { fine = false; cells = z }) ≡ none) × Kept z
 unfolding resultAs
@@ -66,7 +66,7 @@ result-broken e = (refl, rw e zero-kept)
 module _ (p : InnerResult.InnerResult) (h : not (p .fine) ≡ false) {t : Bool} (is : t ≡ coefficientsWithin (p .cells)) where
   pub result-within : Bounded partsBound (p .cells) → t ≡ true → (resultAs p ≡ onResult within (resultAs p)) × Kept (p .cells)
   unfolding within
-  result-within b e = (on-there within p h (rw (← is, e) (there p h)), record { long = b .long; each = sym is ∙ e })
+  result-within b e = (on-there within p h (rw (← is, e) (there p h)), (b .long, sym is ∙ e))
 
   pub result-outside : {r : Option Polynomial} → t ≡ false → r ≡ none → r ≡ onResult within (resultAs p)
   unfolding within

@@ -1,24 +1,16 @@
 -- An inner result as the code holds it.
 use Prim.Native.Nat.{ℕ, _*_}
-use mathlib.Core.Path.{_≡_}
-use mathlib.Core.Bool.{Bool, true, cond}
-use mathlib.Core.List.{List}
+use mathlib.Core.Bool.{Bool, cond}
 use mathlib.Core.Option.{Option, none, some}
 use lib.IntN.{ℤ}
-use lib.ListN.{length}
 use Rattle.exact.specs.Int.{_⊕_, _⊖_}
-use Rattle.formula.specs.Polynomial.{Polynomial, monomialCount, coefficientsWithin, fits, multiplied}
+use Rattle.formula.specs.Polynomial.{Polynomial, fits, multiplied}
 use Rattle.rows.specs.Bounded.{termBound}
 use Rattle.coefficients.specs.declared.InnerResult as InnerResult
 
 -- none if a limit was broken
 unfoldable pub resultAs : InnerResult.InnerResult → Option Polynomial
 resultAs r = cond (r .fine) (some (r .cells)) none
-
--- 70 coefficients within the limit, whether the result is fine or not
-pub record Kept (cells : List ℤ) : Type 0 where
-  pub long : length cells ≡ monomialCount
-  pub each : coefficientsWithin cells ≡ true
 
 -- no coefficient leaves it before the limits are tested: a product has at most 4,900 products of two coefficients
 unfoldable pub partsBound : ℕ

@@ -9,11 +9,11 @@ ghost use mathlib.Core.Option.{none};
 ghost use Prim.Native.Nat.{_<_, _≤_};
 ghost use Rattle.exact.specs.Size.{Size};
 ghost use Rattle.paper.specs.Limits.{coefficientLimit};
-ghost use Rattle.formula.specs.Polynomial.{zeroPolynomial, cellwise, coefficientsWithin, within, slot, unitExponents};
+ghost use Rattle.formula.specs.Polynomial.{Kept, zeroPolynomial, cellwise, coefficientsWithin, within, slot, unitExponents};
 ghost use Rattle.formula.specs.Polynomial.{constant, variablePolynomial, sumOf, differenceOf, productOf};
 ghost use Rattle.formula.specs.Meaning.{onResult, onResults, powerOf};
 ghost use Rattle.rows.specs.Bounded.{Bounded};
-ghost use Rattle.coefficients.specs.Result.{resultAs, Kept, partsBound, joinedBy, unsettledProduct};
+ghost use Rattle.coefficients.specs.Result.{resultAs, partsBound, joinedBy, unsettledProduct};
 
 pub struct InnerResult {
     pub fine: bool,

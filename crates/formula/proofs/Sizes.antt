@@ -10,7 +10,7 @@ use Rattle.exact.specs.Int.{_⊕_, _⊖_, _⊗_, 1ℤ}
 use Rattle.formula.specs.Grammar.{Formula, number, letter, parens, raised, times, plus, minus, negative}
 use Rattle.formula.specs.Polynomial.{Polynomial, monomialCount, slot, productSlot, unitExponents, cell, isZero, zeros, zeroPolynomial}
 use Rattle.formula.specs.Polynomial.{addAt, single, cellwise, unlessNought, addRow, addRows, multiplied, fits}
-use Rattle.formula.specs.Polynomial.{coefficientsWithin, within, constant, variablePolynomial, sumOf, differenceOf, productOf}
+use Rattle.formula.specs.Polynomial.{Kept, coefficientsWithin, within, constant, variablePolynomial, sumOf, differenceOf, productOf}
 use Rattle.formula.specs.Meaning.{onResult, onResults, powerOf, evaluate}
 
 -- ---- lengths
@@ -64,10 +64,6 @@ unfolding multiplied zeroPolynomial
 length-multiplied p q = length-addRows p q 0 monomialCount (zeros monomialCount) ∙ length-zeros monomialCount
 
 -- ---- results
-
--- one coefficient for each monomial, all within the limit
-abbrev pub Kept : Polynomial → Type 0
-Kept p = (length p ≡ monomialCount) × (coefficientsWithin p ≡ true)
 
 -- nothing is no result
 pub none-some : {r : Polynomial} → none ≡ some r → ⊥

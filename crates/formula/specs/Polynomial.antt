@@ -1,10 +1,11 @@
 -- Polynomials as coefficients, one for each monomial of degree at most 4 in the four letters: request 2.1, and the limits of a term of document 01.
 use Prim.Native.Nat.{ℕ, suc, zero, _+_, _-_}
+use mathlib.Core.Path.{_≡_}
 use mathlib.Core.Bool.{Bool, true, false, cond, _&&_, _||_}
 use mathlib.Core.List.{List, [], _∷_, map, flatMap}
 use mathlib.Core.Option.{Option, none, some}
 use lib.IntN.{ℤ, pos, natAbs}
-use lib.ListN.{getD}
+use lib.ListN.{length, getD}
 use lib.Dec.{eqb, leb}
 use Rattle.exact.specs.Int.{_⊕_, _⊖_, _⊗_, 0ℤ, 1ℤ}
 use Rattle.exact.specs.Crossed.{countFrom}
@@ -130,6 +131,10 @@ fits p q = allFrom (λ i. isZero (cell p i) || rowFits i q) 0 monomialCount
 -- the coefficients are at most 1,048,576 in size
 unfoldable pub coefficientsWithin : Polynomial → Bool
 coefficientsWithin p = every (λ x. leb (natAbs x) coefficientLimit) p
+
+-- what every inner result keeps: 70 coefficients within the limit
+abbrev pub Kept : Polynomial → Type 0
+Kept p = (length p ≡ monomialCount) × (coefficientsWithin p ≡ true)
 
 -- an inner result: none if it breaks a limit
 unfoldable pub within : Polynomial → Option Polynomial

@@ -5,12 +5,10 @@
 use coefficients::InnerResult;
 ghost use mathlib.Core.Path.{_≡_};
 ghost use mathlib.Core.Bool.{true, cond, _||_};
-ghost use Prim.Native.Nat.{_+_, _≤_, _<_};
-ghost use lib.ListN.{length};
+ghost use Prim.Native.Nat.{_+_, _<_};
 ghost use Rattle.formula.specs.Grammar.{axisOf};
-ghost use Rattle.formula.specs.Polynomial.{zeroPolynomial, differenceOf};
-ghost use Rattle.formula.specs.Meaning.{onResult};
-ghost use Rattle.coefficients.specs.Result.{resultAs, Kept};
+ghost use Rattle.formula.specs.Polynomial.{Kept};
+ghost use Rattle.coefficients.specs.Result.{resultAs};
 ghost use Rattle.readers.specs.Ahead.{byteIs, isDigit, AtomAhead, ProductAhead, SumAhead, AtomRead, PowerRead, ProductRead, SumRead, NumberRead, signedBy};
 
 // What was read: where the text goes on, and the inner result.

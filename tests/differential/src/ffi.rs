@@ -5,6 +5,7 @@
 //! field is 0; a field for an axis above n is 0; a field that the answer does not use is 0.
 
 use reference::build::place;
+use reference::formula::{TermList, LONGEST};
 use reference::grid::{vertex, Vertex};
 use reference::ground::Ground;
 use reference::limits::MOST;
@@ -111,6 +112,14 @@ struct WriteAnswer {
 
 #[repr(C)]
 #[derive(Clone, Copy, PartialEq, Debug)]
+struct FormulaAnswer {
+    refusal: u64,
+    count: u64,
+    bytes: [u8; LONGEST],
+}
+
+#[repr(C)]
+#[derive(Clone, Copy, PartialEq, Debug)]
 struct PenAnswer {
     refusal: u64,
     kind: u64,
@@ -212,6 +221,7 @@ extern "C" {
         buffer: *mut u8,
         buffer_len: usize,
     ) -> WriteAnswer;
+    fn gethwapiko_formula(n: u64, text: *const u8, text_len: usize) -> FormulaAnswer;
 }
 
 /// The refusal, if there is one, with the rest of the answer checked to be 0.
@@ -421,6 +431,7 @@ impl Product for Library {
         }
         Ok(CutOrder::Breaks(a.position as usize))
     }
+
     #[inline]
     fn write_job(&self, loose: &Loose, buffer: &mut [u8]) -> Result<usize, u8> {
         let [p1, p2, p3] = &loose.polynomials;
@@ -444,5 +455,12 @@ impl Product for Library {
         };
         refused(a.refusal, a.length == 0)?;
         Ok(a.length as usize)
+    }
+
+    #[inline]
+    fn formula(&self, n: u64, text: &[u8]) -> TermList {
+        let a = unsafe { gethwapiko_formula(n, text.as_ptr(), text.len()) };
+        // All fields are handed on as they are, so that a test can compare each byte.
+        TermList { refusal: a.refusal, count: a.count, bytes: a.bytes }
     }
 }

@@ -1,4 +1,4 @@
-//! Jobs, places and buffers to try, from a fixed seed: the same on every run.
+//! Jobs, places, buffers and formulas to try, from a fixed seed: the same on every run.
 //!
 //! Valid jobs (`kinds`) lean to what is easy to get wrong: small boxes with many exact zeros at
 //! grid points, values at the readable limit, the largest coefficients and boxes, closed curves,
@@ -10,7 +10,8 @@
 //! jobs for the list of seams, `nests` has jobs for the order of cutting, `small_cutter` has jobs at
 //! the limits of the small cutter, `places` has places to judge and to step from, `sums` has running
 //! sums to ask for, `bodies` has polynomials with bad terms, `term_faults` what makes a term bad,
-//! `loose` has loose bodies to write a job from, and what is wrong with them.
+//! `loose` has loose bodies to write a job from, and what is wrong with them, `formulas` has formulas
+//! to type, which are trees (`trees`), and what may go wrong with them.
 //!
 //! What is tried has a name, and each input says by which names it was made: a test counts them.
 
@@ -18,6 +19,7 @@ mod biases;
 mod bodies;
 mod changes;
 mod directions;
+mod formulas;
 mod halves;
 mod kinds;
 mod loose;
@@ -28,12 +30,19 @@ mod random;
 mod small_cutter;
 mod sums;
 mod term_faults;
+mod trees;
 
 pub use biases::Bias;
 pub use bodies::{any_bodies, AnyBodies, BodyKind, TermChange};
 pub use changes::{any_change, any_job, dimension_written, AnyJob, Change, Damage, JobTally};
 pub use directions::{of_any_course, of_course, through_cube, with_many_ties, Course};
-pub use kinds::{valid, valid_for_rounding, valid_of_any, valid_small, vertex_in, Kind, Made};
+pub use formulas::{
+    any_formula, change_text, formula_of, nested, typed_list, AnyFormula, FormulaChange,
+    FormulaKind, FormulaTally, ALPHABET,
+};
+pub use kinds::{
+    any_dimension, valid, valid_for_rounding, valid_of_any, valid_small, vertex_in, Kind, Made,
+};
 pub use loose::{
     any_loose, resize, with_loose_faults, AnyLoose, EndsFault, Fault as LooseFault, LengthFault,
     LooseKind, LooseTally, StartFault, TermFault, Unread,
@@ -47,3 +56,4 @@ pub use sums::{any_sum, with_largest_terms, AnySum, CountKind, NumberKind, SumKi
 pub use term_faults::{
     every_second, full, short, terms_of, with_fault, Behind, LimitFault, GOOD_COEFFICIENTS,
 };
+pub use trees::Tree;

@@ -1,6 +1,7 @@
 //! The operations as one table of functions, so that a test can be run on the reference and
 //! on the proved library alike.
 
+use crate::formula::{self, TermList};
 use crate::grid::Vertex;
 use crate::ground::{self, Ground};
 use crate::job::{self, Job};
@@ -43,6 +44,8 @@ pub trait Product {
     fn cut_order(&self, job: &[u8], list: &[u8]) -> Result<CutOrder, u8>;
     /// The length of the job that was written from loose bodies.
     fn write_job(&self, loose: &Loose, buffer: &mut [u8]) -> Result<usize, u8>;
+    /// The term list of a formula, or its refusal, whole.
+    fn formula(&self, n: u64, text: &[u8]) -> TermList;
 }
 
 /// What Open answers to a job that opens.
@@ -101,5 +104,8 @@ impl Product for Reference {
     }
     fn write_job(&self, loose: &Loose, buffer: &mut [u8]) -> Result<usize, u8> {
         writing::write_job(loose, buffer)
+    }
+    fn formula(&self, n: u64, text: &[u8]) -> TermList {
+        formula::formula(n, text)
     }
 }

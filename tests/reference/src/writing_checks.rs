@@ -376,7 +376,7 @@ pub fn every_bias(product: &impl Product) {
 }
 
 /// Numbers above 300 of which some low bits are a dimension, or few are set.
-fn large_numbers() -> Vec<u64> {
+pub fn large_numbers() -> Vec<u64> {
     let mut all = vec![u64::MAX, u64::MAX - 1, i64::MAX as u64];
     for shift in 9..64 {
         all.extend([0, 1, 2, 3, 4, 5].map(|low| (1 << shift) + low));

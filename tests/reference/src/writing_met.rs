@@ -145,7 +145,8 @@ impl Way {
     }
 }
 
-fn wrong_dimension(n: u64) -> Option<WrongDimension> {
+/// Why a number is no dimension.
+pub fn wrong_dimension(n: u64) -> Option<WrongDimension> {
     let is_one = |n: u64| (2..=4).contains(&n);
     match n {
         2..=4 => None,

@@ -5,6 +5,7 @@
 use std::panic::{catch_unwind, AssertUnwindSafe};
 
 use reference::bad_terms::{bad_terms, Bad};
+use reference::formula::TermList;
 use reference::grid::Vertex;
 use reference::ground::Ground;
 use reference::limits::MOST;
@@ -388,6 +389,9 @@ impl Product for Wrong {
     }
     fn write_job(&self, loose: &Loose, buffer: &mut [u8]) -> Result<usize, u8> {
         write(self.0, loose, buffer)
+    }
+    fn formula(&self, n: u64, text: &[u8]) -> TermList {
+        Reference.formula(n, text)
     }
 }
 

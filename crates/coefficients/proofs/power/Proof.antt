@@ -5,7 +5,8 @@ use mathlib.Core.Path.{_≡_, ap, _∙_}
 use native.Mathlib.Omega.{arith}
 use borrow.Author.Needs.{needs}
 use Rattle.formula.specs.Meaning.{powerOf}
-use Rattle.coefficients.specs.Result.{resultAs, Kept}
+use Rattle.formula.specs.Polynomial.{Kept}
+use Rattle.coefficients.specs.Result.{resultAs}
 use Rattle.coefficients.proofs.Results.{same-missing, on-there, power-starts, power-next}
 use Rattle.coefficients.proofs.power.Statement.{statement}
 use Rattle.coefficients.proofs.power.Tie as tie

@@ -4,9 +4,9 @@ use mathlib.Core.Path.{sym, ap, _∙_}
 use native.Mathlib.Omega.{arith}
 use lib.ListN.{length}
 use borrow.Author.Needs.{needs}
-use Rattle.coefficients.specs.Result.{resultAs, Kept}
+use Rattle.coefficients.specs.Result.{resultAs}
 use Rattle.readers.specs.Ahead.{ProductSoFar, SumSoFar}
-use Rattle.formula.specs.Polynomial.{variablePolynomial}
+use Rattle.formula.specs.Polynomial.{Kept, variablePolynomial}
 use Rattle.formula.proofs.Letters.{axis-under-four}
 use Rattle.readers.proofs.Machine.{byte-is-inside}
 use Rattle.readers.proofs.Steps.{atom-inside, open-under, sum-opens, parens-inside, parens-read, letter-read, number-atom, power-plain, exponent-here, power-raised, product-begins, product-first, product-next, product-longer, product-ends, sum-inside, sign-behind, sum-begins, sum-first, sign-inside, sum-next, sum-longer, sum-ends}

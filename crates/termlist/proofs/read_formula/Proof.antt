@@ -48,7 +48,7 @@ unfolding inLanguage nestingLimit
 returns-4 c = c .refusal4 .ensures ∙ ap handedBack (sym (answers-limit _ _ _ (sym (c .before .before .before .before .before .before .before .before .before .dimension-ok .ensures) ∙ not-false (c .before .before .before .before .before .before .before .before .before .dimension-ok .result) (c .before .before .before .before .before .before .before .before .if1 .left)) (sym (c .before .before .before .before .before .before .before .passes .ensures) ∙ not-false (c .before .before .before .before .before .before .before .passes .result) (c .before .before .before .before .before .before .if2 .left)) (read-whole _ _ _ _ (sym (c .before .before .before .before .before .passes2 .ensures) ∙ not-false (c .before .before .before .before .before .passes2 .result) (c .before .before .before .before .if3 .left)) (c .before .before .before .read-sum .ensures .0)) (not-fine _ (not-true (c .before .before .before .read-sum .result .result .fine) (c .before .if4 .taken)))))
 
 terms-of-requires : tie.Need-terms-of-requires
-terms-of-requires c κs = (c .before .before .before .before .read-sum .ensures .1 .long, c .before .before .before .before .read-sum .ensures .1 .each)
+terms-of-requires c κs = (c .before .before .before .before .read-sum .ensures .1 .0, c .before .before .before .before .read-sum .ensures .1 .1)
 
 returns-5 : tie.Need-returns-5
 unfolding inLanguage nestingLimit
