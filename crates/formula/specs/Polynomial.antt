@@ -26,6 +26,7 @@ exponentsUpTo (suc m) d = flatMap (λ (e : ℕ). map (λ es. e ∷ es) (exponent
 unfoldable pub monomials : List (List ℕ)
 monomials = exponentsUpTo 4 degreeLimit
 
+-- how many these are (`monomials-counted`)
 unfoldable pub monomialCount : ℕ
 monomialCount = 70
 
