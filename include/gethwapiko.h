@@ -1,7 +1,7 @@
 /* The C interface of Gethwapiko (archive: target/staticlib/libcabi.a, x86-64).
  *
  * Each function answers exactly what the definition of document 01 and of the requests says, for every input; the proof is in crates/cabi, and that
- * of the structs' numbers in crates/numbers.
+ * of the structs' numbers in crates/jobnumbers and the other crates of that name.
  * Bytes are handed over as a pointer and a count, and the pointer must be good for that many bytes. Nothing is kept between calls,
  * nothing is allocated, and only the buffer of a trace, of the seams or of a job to be written is written; it must not overlap what is read.
  *
