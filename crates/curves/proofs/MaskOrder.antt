@@ -77,17 +77,17 @@ fresh_zero {n} {m} {o} f = distinct_fresh n o (fresh_under f) (fresh_distinct f)
 
 pub fresh_front : {n m : ℕ} (o p : List ℕ) → Fresh n m (o ++ p) → Fresh n m o
 fresh_front [] p f = none
-fresh_front (a ∷ o) p (next l z r) = next l z (fresh_front o p r)
+fresh_front {n = n} {m = m} (a ∷ o) p (next l z r) = next l z (fresh_front {m = m + 2 ^ a} o p r)
 
 pub fresh_back : {n m : ℕ} (o p : List ℕ) → Fresh n m (o ++ p) → Fresh n (m + weight o) p
 unfolding weight
 fresh_back {n} {m} [] p f = rw add-zero f
-fresh_back {n} {m} (a ∷ o) p (next l z r) = rw (← add_assoc) (fresh_back o p r)
+fresh_back {n} {m} (a ∷ o) p (next l z r) = rw (← add_assoc) (fresh_back {m = m + 2 ^ a} o p r)
 
 pub fresh_last : {n m : ℕ} (o : List ℕ) (a : ℕ) → Fresh n m o → a < n → bit a (m + weight o) ≡ 0 → Fresh n m (o ++ a ∷ [])
 unfolding weight
 fresh_last {n} {m} [] a f l z = next l (ap (bit a) (sym (add-zero m)) ∙ z) none
-fresh_last {n} {m} (b ∷ o) a (next k y r) l z = next k y (fresh_last o a r l (ap (bit a) (add_assoc m (2 ^ b) (weight o)) ∙ z))
+fresh_last {n} {m} (b ∷ o) a (next k y r) l z = next k y (fresh_last {m = m + 2 ^ b} o a r l (ap (bit a) (add_assoc m (2 ^ b) (weight o)) ∙ z))
 
 -- two neighbours exchanged
 exchange_head : {n m a b : ℕ} {p : List ℕ} → Fresh n m (a ∷ b ∷ p) → Fresh n m (b ∷ a ∷ p)
@@ -100,14 +100,14 @@ exchange_head {n} {m} {a} {b} {p} (next l z (next k y r)) =
 
 pub fresh_exchange : {n m : ℕ} (o : List ℕ) (a b : ℕ) (p : List ℕ) → Fresh n m (o ++ a ∷ b ∷ p) → Fresh n m (o ++ b ∷ a ∷ p)
 fresh_exchange [] a b p f = exchange_head f
-fresh_exchange (x ∷ o) a b p (next l z r) = next l z (fresh_exchange o a b p r)
+fresh_exchange {n = n} {m = m} (x ∷ o) a b p (next l z r) = next l z (fresh_exchange {m = m + 2 ^ x} o a b p r)
 
 -- an axis that is new behind a list is new in front of it
 pub fresh_first : {n m : ℕ} (a : ℕ) (o : List ℕ) → Fresh n m o → a < n → bit a (m + weight o) ≡ 0 → Fresh n m (a ∷ o)
 unfolding weight
 fresh_first {n} {m} a [] f l z = next l (ap (bit a) (sym (add-zero m)) ∙ z) none
 fresh_first {n} {m} a (b ∷ o) (next k y r) l z =
-    exchange_head (next k y (fresh_first a o r l (ap (bit a) (add_assoc m (2 ^ b) (weight o)) ∙ z)))
+    exchange_head (next k y (fresh_first {m = m + 2 ^ b} a o r l (ap (bit a) (add_assoc m (2 ^ b) (weight o)) ∙ z)))
 
 -- ---- the sum of the powers
 

@@ -89,8 +89,8 @@ oriented_two n a b u v d = go (ltb a b) refl
 pub added_between : {n m : ℕ} (s : ℕ) (o : List ℕ) (d : ℕ) (p : List ℕ) → Fresh n m o → added n s (powers o ++ d ∷ powers p) ≡ o ++ (oriented s (axes n d) ++ added n s (powers p))
 unfolding added powers
 added_between s [] d p f = refl
-added_between {n} s (a ∷ o) d p (next l z r) =
-    ap₂ ◌++◌ (ap (oriented s) (axes_power n a l) ∙ oriented_one s a) (added_between s o d p r)
+added_between {n = n} {m = m} s (a ∷ o) d p (next l z r) =
+    ap₂ ◌++◌ (ap (oriented s) (axes_power n a l) ∙ oriented_one s a) (added_between {m = m + 2 ^ a} s o d p r)
 
 pub ones_power : (a : ℕ) → ones (2 ^ a) ≡ 1
 ones_power a = ap ones (sym (zero-add (2 ^ a))) ∙ ones_add a 0 (bit_zero a) ∙ ap suc ones_zero

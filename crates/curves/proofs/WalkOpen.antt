@@ -22,7 +22,7 @@ use Rattle.curves.proofs.WalkCover.{traced_first, both_cover}
 module _ {P W : Type 0} {step : P → Next P W} where
   steps_round : {i j : ℕ} {x y z : P} → Steps step (suc i) x y → Steps step j y z → (n : ℕ) × Steps step (suc n) x z
   steps_round {i} {x = x} t (stay e) = (i, subst (λ w. Steps step (suc i) x w) e t)
-  steps_round t (move e u) = steps_round (steps_more t e) u
+  steps_round {i = i} t (move e u) = steps_round {i = suc i} (steps_more t e) u
 
   -- A walk that stops somewhere never returns.
   stop_no_round : {m n : ℕ} {x z : P} {w : W} → Steps step m x z → step z ≡ stop w → Steps step (suc n) x x → ⊥

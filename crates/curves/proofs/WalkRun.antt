@@ -78,7 +78,7 @@ module _
   run_no_repeat {k} {s} o t (then {x = x} {l = l} e r) away =
       more
       (λ i. again (Memᴰ.of_map facet l i))
-      (run_no_repeat o (steps_more t e) r (λ d w u h. away d w u (omega arith)))
+      (run_no_repeat {k = suc k} o (steps_more t e) r (λ d w u h. away d w u (omega arith)))
     where
       again : ((w : P) × (w ∈ l) × (facet w ≡ facet x)) → ⊥
       again t' =

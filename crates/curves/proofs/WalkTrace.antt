@@ -180,7 +180,7 @@ module _
       (λ y e f. ap (λ r. x ∷ r.places) (trace_from_none step same s y))
   run_traced {k} {s} o t (then {x = x} {y} {l = l} e r) away =
       ap (λ u. u.places) (trace_from_on step same s (length l) e (differs (same y s) refl)) ∙
-      ap (λ m. x ∷ m) (run_traced o (steps_more t e) r (λ d w u h. away d w u (omega arith)))
+      ap (λ m. x ∷ m) (run_traced {k = suc k} o (steps_more t e) r (λ d w u h. away d w u (omega arith)))
     where
       differs : (b : Bool) → same y s ≡ b → same y s ≡ false
       differs false h = h

@@ -43,6 +43,7 @@ module _ {C : Type 0} (e : C) where
 
   laplace_vanishes : (h : C → ℤ) → h e ≡ 0ℤ → (D : List C → ℤ) → Vanishes D → Vanishes (laplace h D)
   unfolding laplace
+  laplace_vanishes h z D v [] m = elim m [ ]
   laplace_vanishes h z D v (x ∷ xs) here =
       ap₂ (λ a b. a ⊗ D xs ⊖ b) z (laplace_nought h (λ ys. D (e ∷ ys)) (λ ys. v (e ∷ ys) here) xs) ∙ simp ring
   laplace_vanishes h z D v (x ∷ xs) (there m) =
