@@ -46,6 +46,10 @@ pattern f s n = cond s (top f) 0 + (size n - prec f) * hid f + n / 2 ^ (size n -
 value_unique :
     (f : Format) (x y : Float) (s : Bool) (a c : ℕ) → 0 < c → T (fits f x) → T (fits f y) → HasValue x s a c → HasValue y s a c → x ≡ y
 unfolding to_bits
+value_unique f lib.Ieee.nan y s a c p hx hy v w = elim v [ ]
+value_unique f (lib.Ieee.inf _) y s a c p hx hy v w = elim v [ ]
+value_unique f (fin t m e) lib.Ieee.nan s a c p hx hy v w = elim w [ ]
+value_unique f (fin t m e) (lib.Ieee.inf _) s a c p hx hy v w = elim w [ ]
 value_unique f (fin t m e) (fin u n g) s a c p hx hy v w =
     sym (of_bits-to_bits f (fin t m e) hx) ∙ ap (of_bits f) same ∙ of_bits-to_bits f (fin u n g) hy
   where
@@ -111,6 +115,8 @@ unlike_false false = refl
 
 quotient : (s : Bool) (a : ℕ) → a ≤ 2 ^ 53 → (x : Float) → HasValue x s a 1 → div binary64 x (fin false 1 (pos 10)) ≡ odd 54 s a 0 10
 unfolding div
+quotient s a h lib.Ieee.nan v = elim v [ ]
+quotient s a h (lib.Ieee.inf _) v = elim v [ ]
 quotient s a h (fin t m e) v =
     ap (λ u. round binary64 u (m * up e * 1) (1 * 2 ^ 10 * down e)) (unlike_false t ∙ v.0)
     ∙ round_same binary64 s (m * up e * 1) (1 * 2 ^ 10 * down e) a 1024 positive (lit< tt) same

@@ -206,16 +206,17 @@ module _ (n : ℕ) (b : List ℕ) where
 
 -- ---- Open
 
+-- the test of the terms answers it, and no later one
+terms_fail : (t later : Bool) → refuse_if (not t) 7 (refuse_if later 8 0) ≡ 7 → t ≡ false
+unfolding refuse_if
+terms_fail false later h = refl
+terms_fail true false h = absurd (omega arith)
+terms_fail true true h = absurd (omega arith)
+
 -- 7 is the answer exactly if the tests before it refuse nothing and some polynomial has a bad term
 pub refusal_7 : (s : List ℕ) → (open_refusal s ≡ 7) ↔ JobWithBadTerm s
 refusal_7 s = (answered_7, answer_7)
   where
-    -- the test of the terms answers it, and no later one
-    terms_fail : (t later : Bool) → refuse_if (not t) 7 (refuse_if later 8 0) ≡ 7 → t ≡ false
-    terms_fail false later h = refl
-    terms_fail true false h = unfold refuse_if in absurd (omega arith)
-    terms_fail true true h = unfold refuse_if in absurd (omega arith)
-
     answered_7 : open_refusal s ≡ 7 → JobWithBadTerm s
     answered_7 h = unfold open_refusal in
         let r1 = answered_later _ 1 _ (λ z. omega arith) h in
