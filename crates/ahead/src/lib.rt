@@ -1,6 +1,8 @@
 // One turn of a walk that ends when it is back at its start: the step from a place, and whether that leads to the start's facet. Nothing is
 // written here: Trace writes the place before it, and whoever looks for something along a curve writes nothing.
 
+#![tactic(auto)]
+
 ghost use Rattle.step.specs.Held.{Held};
 ghost use Rattle.places.specs.Held.{place_as};
 ghost use Rattle.carried.specs.Carries.{Carries};
@@ -11,7 +13,7 @@ use paper::Verdict;
 use places::HeldPlace;
 
 // After a place is visited: the verdict, or the place to be visited next.
-#[derive(Drop)]
+#[derive(Clone, Copy)]
 pub enum Visited {
     Over(Verdict),
     Next(Entered),

@@ -1,5 +1,7 @@
 // Writing jobs: document 02, request 2.2. The loose bodies are tested first; then the writer lays contents and bodies in the caller's buffer.
 
+#![tactic(auto)]
+
 ghost use Rattle.std.specs.Prelude.{◌≡◌};
 ghost use Rattle.assembly.specs.Assembled.{handed};
 ghost use Rattle.assembly.specs.Written.{written, buffer_written};

@@ -1,5 +1,7 @@
 // The small bench cutter, request 2.10: Open and Trace of document 01 with one more test behind Open's.
 
+#![tactic(auto)]
+
 mod limits;
 
 ghost use Rattle.std.specs.Prelude.{◌≡◌};

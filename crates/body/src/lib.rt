@@ -1,5 +1,7 @@
 // Body of document 01: the part of a job that holds a body.
 
+#![tactic(auto)]
+
 ghost use Rattle.std.specs.Prelude.{◌≡◌, ◌+◌, ◌<◌};
 ghost use Rattle.paper.specs.Operations.{body_refusal, body_part};
 ghost use Rattle.entries.specs.Parts.{BeginsAt};

@@ -1,5 +1,7 @@
 // Where in its job a body lies, as a struct of numbers, for C. It stands apart from the C functions, since an edit checks its whole crate again.
 
+#![tactic(auto)]
+
 ghost use Rattle.std.specs.Prelude.{◌≡◌, ◌+◌, ◌≤◌, length, take, drop};
 ghost use Rattle.paper.specs.Operations.{body_part};
 ghost use Rattle.jobnumbers.specs.Numbers.{body_entry, body_numbers};

@@ -1,5 +1,7 @@
 // Open's tests of the contents and the bodies, refusals 5 to 8, in the paper's order.
 
+#![tactic(auto)]
+
 ghost use Rattle.std.specs.Prelude.{◌≡◌, true, false, ◌-◌, ◌<◌};
 ghost use Rattle.paper.specs.Job.{body, contents_ok, all_from, polynomial_ok};
 ghost use Rattle.bits.specs.Axes.{Axes};

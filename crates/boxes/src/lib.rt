@@ -1,5 +1,7 @@
 // The box: per axis a low and a high end.
 
+#![tactic(auto)]
+
 ghost use Rattle.std.specs.Prelude.{◌≡◌, ◌+◌, ◌*◌, ◌≤◌, length};
 ghost use Rattle.paper.specs.Job.{box_ok};
 ghost use Rattle.boxes.specs.Between.{axis_between, box_between};

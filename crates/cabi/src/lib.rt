@@ -1,6 +1,8 @@
 // The C interface: each function hands on what an operation of document 01 or of a request answers, as a struct of numbers. A slice is a
 // pointer and a length. Refusal 0 is none; beside a refusal, and where an answer does not use a field, the field is 0.
 
+#![tactic(auto)]
+
 ghost use Rattle.std.specs.Prelude.{◌≡◌, [], ◌∷◌, ◌+◌, ◌≤◌, length, take, drop};
 ghost use Rattle.paper.specs.Operations.{opened, body_part, judged, pointed, stepped, traced, space_of, verdict_and_count, buffer_after};
 ghost use Rattle.paper.specs.Pen.{penned};

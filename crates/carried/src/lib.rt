@@ -1,6 +1,8 @@
 // A step by what is carried: the values at the facet's vertices are known, and only the new vertex of the simplex is summed. Nothing is
 // written here, so that a walk without a buffer takes the same step.
 
+#![tactic(auto)]
+
 ghost use Rattle.std.specs.Prelude.{◌≡◌, true, ℕ, ◌≤◌};
 ghost use Rattle.exact.specs.Crossed.{crossed};
 ghost use Rattle.curves.specs.Grid.{place_ok};
@@ -16,7 +18,7 @@ use simplices::{corners, search};
 
 // A place with the simplex on its side: the row of its order, the vertex that the facet leaves out, and whether the determinant of the
 // facet is above 0.
-#[derive(Drop)]
+#[derive(Clone, Copy)]
 pub struct Entered {
     pub place: HeldPlace,
     pub row: usize,
@@ -25,7 +27,7 @@ pub struct Entered {
 }
 
 // What lies ahead of a place: a vertex outside the box, a value that is not readable, or the next place.
-#[derive(Drop)]
+#[derive(Clone, Copy)]
 pub enum Ahead {
     Edge,
     Limit,

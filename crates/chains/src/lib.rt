@@ -1,5 +1,7 @@
 // The chains of masks of two, of three and of four axes as one constant table, and the facet with a lowest vertex and a chain.
 
+#![tactic(auto)]
+
 ghost use Rattle.std.specs.Prelude.{◌≡◌, ◌<◌, length};
 ghost use Rattle.curves.specs.Box.{chains};
 ghost use Rattle.bits.specs.Axes.{Axes};

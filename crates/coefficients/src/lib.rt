@@ -1,6 +1,8 @@
 // Polynomials as coefficients, one for each monomial of degree at most 4, and one operation each. Every result is an inner result: it stands on the
 // limits of a term, or it is not fine, and then its coefficients are 0.
 
+#![tactic(auto)]
+
 ghost use Rattle.std.specs.Prelude.{◌≡◌, cond, ◌<◌, ◌≤◌};
 ghost use Rattle.std.proofs.Math.Option.{none};
 ghost use Rattle.exact.specs.Size.{Size};
@@ -14,7 +16,7 @@ ghost use Rattle.coefficients.specs.Result.{result_as, parts_bound, joined_by, u
 use bits::read;
 use rows;
 
-#[derive(Drop)]
+#[derive(Clone, Copy)]
 pub struct InnerResult {
     pub fine: bool,
     pub cells: [i64; 70],

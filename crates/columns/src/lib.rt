@@ -1,3 +1,5 @@
+#![tactic(auto)]
+
 // The columns of facets and simplices: the values at their vertices, document 01, section "Crossed".
 ghost use Rattle.places.specs.Held.{facet_as, VertexSize};
 ghost use Rattle.job.specs.OpenJob.{JobOf};

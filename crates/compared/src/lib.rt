@@ -1,5 +1,7 @@
 // The exit of a simplex by comparisons of two vertices: n − 1 signs in place of a facet judged for each vertex.
 
+#![tactic(auto)]
+
 ghost use Rattle.std.specs.Prelude.{◌≡◌, cond, [], ◌∷◌, ◌-◌, ◌≤◌, ◌<◌};
 ghost use Rattle.exact.specs.Int.{0ℤ};
 ghost use Rattle.exact.specs.Size.{Is};

@@ -1,5 +1,7 @@
 // The values at the corners of the unit cube above a vertex, taken once for all the facets that have it as their lowest vertex.
 
+#![tactic(auto)]
+
 ghost use Rattle.std.specs.Prelude.{◌≡◌, ℕ, ◌+◌, ◌*◌, ◌≤◌, ◌<◌, true, false, not, ◌&&◌, List, ℤ, length};
 ghost use Rattle.std.specs.Int.Signed.{le_z};
 ghost use Rattle.exact.specs.Int.{0ℤ};

@@ -1,5 +1,7 @@
 // Whether an order of cutting stands: inner loops before outer. The list is gone through position by position.
 
+#![tactic(auto)]
+
 ghost use Rattle.std.specs.Prelude.{◌≡◌};
 ghost use Rattle.job.specs.OpenJob.{JobOf};
 ghost use Rattle.nesting.specs.CutOrder.{ordered};

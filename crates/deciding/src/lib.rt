@@ -1,5 +1,7 @@
 // Judge in the form that names its ground (request 2.9).
 
+#![tactic(auto)]
+
 ghost use Rattle.std.specs.Prelude.{◌≡◌, ◌≢◌, map, ◌<◌};
 ghost use Rattle.exact.specs.Int.{0ℤ};
 ghost use Rattle.exact.specs.Sign.{sign};

@@ -1,6 +1,8 @@
 // Bytes, words and whole numbers in base ten, written into a lent buffer. A function that writes at a position answers the position
 // behind its text and leaves every other byte as it was.
 
+#![tactic(auto)]
+
 ghost use Rattle.std.specs.Prelude.{◌≡◌, [], ◌∷◌, ◌+◌, ◌≤◌, ◌<◌, length};
 ghost use Rattle.paper.specs.Listing.{decimal, signed_decimal};
 ghost use Rattle.decimals.specs.Written.{Writes};

@@ -1,5 +1,7 @@
 // The determinant of a facet's columns and the coefficients at a vertex, read from the cells of a simplex.
 
+#![tactic(auto)]
+
 ghost use Rattle.std.specs.Prelude.{◌≡◌, [], ◌∷◌, ◌+◌, ◌≤◌, ◌<◌};
 ghost use Rattle.exact.specs.Int.{◌⊗◌};
 ghost use Rattle.exact.specs.Size.{Is};

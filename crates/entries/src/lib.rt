@@ -1,5 +1,7 @@
 // The contents: n + 1 entries, each with the offset and the length of a body.
 
+#![tactic(auto)]
+
 ghost use Rattle.std.specs.Prelude.{◌≡◌, ◌+◌, ◌*◌, ◌≤◌, length};
 ghost use Rattle.paper.specs.Job.{entry_offset, entry_length, contents_end, polynomial_length_ok, length_ok, entries_ok, contents_ok, body};
 ghost use Rattle.bits.specs.Axes.{Axes};

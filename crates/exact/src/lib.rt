@@ -1,1 +1,3 @@
 // Exact arithmetic over the whole numbers: definitions in specs/, laws in proofs/. There is no code here.
+
+#![tactic(auto)]

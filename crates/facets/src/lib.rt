@@ -1,5 +1,7 @@
 // Crossed or not: the published test with the tie rule, by whole numbers.
 
+#![tactic(auto)]
+
 ghost use Rattle.std.specs.Prelude.{◌≡◌, ◌≤◌};
 ghost use Rattle.exact.specs.Sign.{sign};
 ghost use Rattle.exact.specs.Crossed.{crossed};

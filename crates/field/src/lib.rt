@@ -1,3 +1,5 @@
+#![tactic(auto)]
+
 // One vertex of a job that has opened: in the box or not, and its values put into the cells.
 ghost use Rattle.std.specs.Prelude.{◌≡◌, true, ◌<◌};
 ghost use Rattle.paper.specs.Values.{field_of};

@@ -1,5 +1,7 @@
 // Open of document 01: a job's bytes tested in the paper's order, and the parts of a job that opens.
 
+#![tactic(auto)]
+
 ghost use Rattle.std.specs.Prelude.{◌≡◌, ◌+◌, ◌≤◌, ◌<◌};
 ghost use Rattle.paper.specs.Job.{dimension, bias, entry_offset, body, open_refusal};
 ghost use Rattle.paper.specs.Operations.{answered, polynomial_terms, open_values, opened};

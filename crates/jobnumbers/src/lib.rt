@@ -2,6 +2,8 @@
 // operation answers into its struct. They stand apart from the C functions since they need no job, and in five crates since an edit checks its whole
 // crate again. Refusal 0 is none; beside a refusal, and where an answer does not use a field, the field is 0.
 
+#![tactic(auto)]
+
 ghost use Rattle.std.specs.Prelude.{◌≡◌};
 ghost use Rattle.paper.specs.Answers.{opened_as, summed_as};
 ghost use Rattle.jobnumbers.specs.Numbers.{open_numbers, write_numbers, sum_numbers};
@@ -11,7 +13,7 @@ use assembly::JobWritten;
 use paper::{Opened, Summed};
 
 #[repr(C)]
-#[derive(Drop)]
+#[derive(Clone, Copy)]
 pub struct OpenAnswer {
     pub refusal: u64,
     pub n: u64,
@@ -21,7 +23,7 @@ pub struct OpenAnswer {
 }
 
 #[repr(C)]
-#[derive(Drop)]
+#[derive(Clone, Copy)]
 pub struct BodyAnswer {
     pub refusal: u64,
     pub offset: u64,
@@ -30,14 +32,14 @@ pub struct BodyAnswer {
 
 // The length of the job written.
 #[repr(C)]
-#[derive(Drop)]
+#[derive(Clone, Copy)]
 pub struct WriteAnswer {
     pub refusal: u64,
     pub length: u64,
 }
 
 #[repr(C)]
-#[derive(Drop)]
+#[derive(Clone, Copy)]
 pub struct SumAnswer {
     pub refusal: u64,
     pub sum: i64,

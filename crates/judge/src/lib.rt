@@ -1,5 +1,7 @@
 // Judge and Point of document 01; the refusals of a place come behind those of Open.
 
+#![tactic(auto)]
+
 ghost use Rattle.std.specs.Prelude.{◌≡◌};
 ghost use Rattle.paper.specs.Operations.{judged, pointed};
 ghost use Rattle.paper.specs.Answers.{judged_as, pointed_as, padded_point};

@@ -1,6 +1,8 @@
 // The answers of Judge, with and without its ground, as structs of numbers, for C. Refusal 0 is none; beside a refusal, and where an answer does
 // not use a field, the field is 0.
 
+#![tactic(auto)]
+
 ghost use Rattle.std.specs.Prelude.{◌≡◌};
 ghost use Rattle.paper.specs.Answers.{judged_as};
 ghost use Rattle.grounds.specs.Judged.{judged_by_as};
@@ -10,7 +12,7 @@ use grounds::JudgedBy;
 use paper::Judged;
 
 #[repr(C)]
-#[derive(Drop)]
+#[derive(Clone, Copy)]
 pub struct JudgeAnswer {
     pub refusal: u64,
     pub crossed: u64,
@@ -18,7 +20,7 @@ pub struct JudgeAnswer {
 
 // Kind 0: not crossed, D is 0; 1: not crossed, the sign of `vertex` is against D by `power`; 2: crossed, the first n of power0 to power3.
 #[repr(C)]
-#[derive(Drop)]
+#[derive(Clone, Copy)]
 pub struct GroundAnswer {
     pub refusal: u64,
     pub kind: u64,

@@ -1,6 +1,8 @@
 // The language of formulas, decided by one pass over the text. Of what the reader holds, only where it stands and how many parentheses are open
 // decide: the pass keeps these two numbers (specs/Pass.antt).
 
+#![tactic(auto)]
+
 ghost use Rattle.std.specs.Prelude.{◌≡◌, ℕ};
 ghost use Rattle.formula.specs.Grammar.{is_letter};
 ghost use Rattle.formula.specs.Reader.{token, reading_of};

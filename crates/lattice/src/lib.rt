@@ -1,3 +1,5 @@
+#![tactic(auto)]
+
 // Vertices: moved up or down along the axes of a mask, and tested against the box.
 ghost use Rattle.std.specs.Prelude.{◌≡◌, ◌+◌, ◌*◌, ◌%◌, pos, length};
 ghost use Rattle.exact.specs.Int.{◌⊕◌, ◌⊖◌};

@@ -1,6 +1,8 @@
 // The parts of a job laid in a buffer from a position on: contents and bodies. Each function answers the position behind what it laid. Bodies come as
 // an array, body k at index k: box, polynomials, start; those past index n are not read.
 
+#![tactic(auto)]
+
 ghost use Rattle.std.specs.Prelude.{pos, ◌+◌, ◌*◌, ◌≤◌, length};
 ghost use Rattle.paper.specs.Bytes.{word_bytes};
 ghost use Rattle.paper.specs.Job.{contents_end};

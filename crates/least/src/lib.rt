@@ -1,5 +1,7 @@
 // The least facet of a seam.
 
+#![tactic(auto)]
+
 // The order of facets.
 pub mod order;
 // The walk both ways.

@@ -15,7 +15,7 @@ use paper::Verdict;
 use places::HeldPlace;
 
 // After a turn: a facet before the start's is met, the walk is back at the start, it has ended, or it goes on.
-#[derive(Drop)]
+#[derive(Clone, Copy)]
 pub enum Sought {
     Before,
     Closed,

@@ -1,6 +1,8 @@
 // The verdict of a trace and the count of its places, without writing one: there is no buffer, so the walk ends where the trace with space for
 // everything ends.
 
+#![tactic(auto)]
+
 ghost use Rattle.std.specs.Prelude.{◌≡◌};
 ghost use Rattle.paper.specs.Operations.{answered, verdict_and_count};
 ghost use Rattle.paper.specs.Answers.{traced_as};

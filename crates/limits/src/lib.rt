@@ -1,5 +1,7 @@
 // The dimensions, and the limit of terms that each one has.
 
+#![tactic(auto)]
+
 ghost use Rattle.std.specs.Prelude.{◌≡◌};
 ghost use Rattle.paper.specs.Limits.{dimension_ok, term_limit};
 ghost use Rattle.bits.specs.Axes.{Axes};

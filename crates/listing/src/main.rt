@@ -1,6 +1,8 @@
 // The listing of document 01: reads one job from standard input and prints its lines. What is printed is `lines::put_listing`'s; here
 // is nothing but the reading and the writing.
 
+#![tactic(auto)]
+
 mod lines;
 
 ghost use Rattle.std.specs.Prelude.{◌≡◌, length};

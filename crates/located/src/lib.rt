@@ -1,6 +1,8 @@
 // A place handed over as bytes, in a job that has opened, with the refusals 13, 9, 10 and 11 in the paper's order: what Judge, Point, Step, Trace
 // and Pen share.
 
+#![tactic(auto)]
+
 ghost use Rattle.std.specs.Prelude.{◌≡◌};
 ghost use Rattle.job.specs.OpenJob.{JobOf};
 ghost use Rattle.determinants.specs.Cells.{Cells};
@@ -9,7 +11,7 @@ ghost use Rattle.located.specs.Located.{refused_place, PlaceFound, Crosses};
 use places::{HeldPlace, Vertex};
 
 // A place of a job: 0 and the place, or the refusal's number and otherwise zeros.
-#[derive(Drop)]
+#[derive(Clone, Copy)]
 pub struct JobPlace {
     pub refusal: u64,
     pub place: HeldPlace,

@@ -1,6 +1,8 @@
 // A walk along the loop of one place past another place: whether the other lies on the same loop, and if not, whether it is inside. By one walk
 // that counts the edges ahead in the row: no facet is held but the one where it stands, and nothing is written.
 
+#![tactic(auto)]
+
 ghost use Rattle.std.specs.Prelude.{◌≡◌, [], ◌∷◌};
 ghost use Rattle.paper.specs.Job.{decode_place};
 ghost use Rattle.paper.specs.Operations.{point_refusal};
@@ -14,7 +16,7 @@ use carried::Entered;
 use places::{HeldPlace, Vertex};
 
 // What a walk along a loop tells of a place: it lies on that loop, or its lowest vertex is inside or outside.
-#[derive(Drop)]
+#[derive(Clone, Copy)]
 pub enum Past {
     Same,
     Inside,

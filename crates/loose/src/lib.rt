@@ -1,6 +1,8 @@
 // Loose bodies by index, and their tests: what opening the job from them would refuse, before a byte of it is written. Bodies come as an array, body k
 // at index k: box, polynomials, start; those past index n are not read.
 
+#![tactic(auto)]
+
 ghost use Rattle.std.specs.Prelude.{◌≡◌, true, ◌+◌, ◌-◌, length};
 ghost use Rattle.paper.specs.Job.{contents_end, all_from, polynomial_ok};
 ghost use Rattle.bits.specs.Axes.{Axes};

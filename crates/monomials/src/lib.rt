@@ -1,5 +1,7 @@
 // The 70 monomials of degree at most 4 in four letters, in the order of a job's terms.
 
+#![tactic(auto)]
+
 ghost use Rattle.std.specs.Prelude.{◌≡◌, ◌≤◌, ◌<◌};
 ghost use Rattle.formula.specs.Polynomial.{monomial_count, exponents_at, degree_at, product_slot};
 ghost use Rattle.monomials.specs.Weight.{weight};

@@ -1,5 +1,7 @@
 // Columns moved by one vertex in the cells: those of a facet go where the next simplex has its vertices.
 
+#![tactic(auto)]
+
 ghost use Rattle.std.specs.Prelude.{◌≡◌, ◌≤◌};
 ghost use Rattle.determinants.specs.Cells.{Cells};
 ghost use Rattle.moves.specs.Columns.{new_index, ColumnsMoved};

@@ -1,6 +1,8 @@
 // The row of the simplex on the other side of a facet: the P rule of document 002, section 5, on the order's digits, and a search of the
 // table for what comes out.
 
+#![tactic(auto)]
+
 ghost use Rattle.std.specs.Prelude.{◌≡◌, ◌≤◌, ◌<◌};
 ghost use Rattle.bits.specs.Axes.{Axes};
 ghost use Rattle.table.specs.Table.{InTable, NeighbourRow, order_beyond};

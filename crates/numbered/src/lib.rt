@@ -1,5 +1,7 @@
 // The vertices of a job's box by number, axis 1 weighing most: document 02, request 2.4.
 
+#![tactic(auto)]
+
 ghost use Rattle.std.specs.Prelude.{◌≡◌, ℕ, ◌^◌, ◌≤◌, ◌<◌, List, pos};
 ghost use Rattle.exact.specs.Int.{0ℤ, ◌⊕◌};
 ghost use Rattle.exact.specs.Size.{Size, Is};
@@ -16,7 +18,7 @@ use places::Vertex;
 
 // The box as a scan goes over it: its lowest vertex, how many vertices it has, and how many for each vertex of axis 1, of axes 1 and 2, of axes
 // 1 to 3.
-#[derive(Drop)]
+#[derive(Clone, Copy)]
 pub struct Frame {
     pub low: Vertex,
     pub size: usize,

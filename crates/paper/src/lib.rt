@@ -1,8 +1,10 @@
 // The public answers of the operations, as document 01 and the requests word them. What each case means, its number and its values, is
 // said in specs/Answers.antt; what an operation answers is defined in specs/Operations.antt, Pen.antt and RunningSum.antt.
 
+#![tactic(auto)]
+
 // Open: the refusal's number, or the dimension and each polynomial's count of terms (0 for one that the dimension does not have).
-#[derive(Drop)]
+#[derive(Clone, Copy)]
 pub enum Opened {
     Refused(u64),
     Job {
@@ -14,7 +16,7 @@ pub enum Opened {
 }
 
 // Judge.
-#[derive(Drop)]
+#[derive(Clone, Copy)]
 pub enum Judged {
     Refused(u64),
     Crossed,
@@ -22,7 +24,7 @@ pub enum Judged {
 }
 
 // A point in steps of 1/1024, axis by axis; z is 0 in dimension 2, w below dimension 4.
-#[derive(Drop)]
+#[derive(Clone, Copy)]
 pub struct StepPoint {
     pub x: i64,
     pub y: i64,
@@ -31,14 +33,14 @@ pub struct StepPoint {
 }
 
 // Point.
-#[derive(Drop)]
+#[derive(Clone, Copy)]
 pub enum Pointed {
     Refused(u64),
     At(StepPoint),
 }
 
 // A place: the lowest vertex, the masks and the side. In dimension 2 z and mask2 are 0, below dimension 4 w and mask3.
-#[derive(Drop)]
+#[derive(Clone, Copy)]
 pub struct Placed {
     pub x: i64,
     pub y: i64,
@@ -51,7 +53,7 @@ pub struct Placed {
 }
 
 // Step.
-#[derive(Drop)]
+#[derive(Clone, Copy)]
 pub enum Stepped {
     Refused(u64),
     Edge,
@@ -60,7 +62,7 @@ pub enum Stepped {
 }
 
 // The verdicts of Trace.
-#[derive(Drop)]
+#[derive(Clone, Copy)]
 pub enum Verdict {
     Loop,
     Edge,
@@ -69,21 +71,21 @@ pub enum Verdict {
 }
 
 // Trace: the refusal's number, or the verdict and the count of places written.
-#[derive(Drop)]
+#[derive(Clone, Copy)]
 pub enum Traced {
     Refused(u64),
     Listed(Verdict, u64),
 }
 
 // The running sum of a polynomial at a vertex, from its last term on (request 2.8).
-#[derive(Drop)]
+#[derive(Clone, Copy)]
 pub enum Summed {
     Refused(u64),
     Sum(i64),
 }
 
 // A point in millimetres, on axes 1 to 3; z is 0 in dimension 2.
-#[derive(Drop)]
+#[derive(Clone, Copy)]
 pub struct Millimetres {
     pub x: f64,
     pub y: f64,
@@ -91,7 +93,7 @@ pub struct Millimetres {
 }
 
 // The moves of the pen.
-#[derive(Drop)]
+#[derive(Clone, Copy)]
 pub enum PenMove {
     Lift(Millimetres),
     Draw(Millimetres),
@@ -99,7 +101,7 @@ pub enum PenMove {
 }
 
 // Pen.
-#[derive(Drop)]
+#[derive(Clone, Copy)]
 pub enum Penned {
     Refused(u64),
     Move(PenMove),

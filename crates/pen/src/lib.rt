@@ -1,5 +1,7 @@
 // Pen of document 01: the pen's move at an index of a list of places, with its point in millimetres.
 
+#![tactic(auto)]
+
 ghost use Rattle.std.specs.Prelude.{◌≡◌, [], ◌∷◌, map};
 ghost use Rattle.exact.specs.Size.{Size};
 ghost use Rattle.paper.specs.Pen.{millimetre, millimetres_as, penned, penned_as};

@@ -1,5 +1,7 @@
 // Vertices and places as the code holds them, with room for four axes, and places as bytes: tested, read, compared.
 
+#![tactic(auto)]
+
 ghost use Rattle.std.specs.Prelude.{◌≡◌, true, [], ◌∷◌, ◌*◌, ◌≤◌, eqb, length};
 ghost use Rattle.exact.specs.Int.{0ℤ};
 ghost use Rattle.exact.specs.Size.{Is};
@@ -16,7 +18,7 @@ use bits::{masks, read};
 use paper::Placed;
 
 // A lattice vertex: its coordinates on axes 1 to 4, of which the first n count.
-#[derive(Drop)]
+#[derive(Clone, Copy)]
 pub struct Vertex {
     pub x: i64,
     pub y: i64,
@@ -25,7 +27,7 @@ pub struct Vertex {
 }
 
 // A place: the lowest vertex, the masks, of which the first n − 1 count, and the side.
-#[derive(Drop)]
+#[derive(Clone, Copy)]
 pub struct HeldPlace {
     pub low: Vertex,
     pub mask1: u64,

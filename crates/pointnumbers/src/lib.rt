@@ -1,6 +1,8 @@
 // The answers of Point and Pen as structs of numbers, for C. Refusal 0 is none; beside a refusal, and where an answer does not use a field, the
 // field is 0.
 
+#![tactic(auto)]
+
 ghost use Rattle.std.specs.Prelude.{◌≡◌};
 ghost use Rattle.paper.specs.Answers.{pointed_as};
 ghost use Rattle.paper.specs.Pen.{penned_as};
@@ -10,7 +12,7 @@ use paper::{PenMove, Penned, Pointed};
 
 // In steps of 1/1024.
 #[repr(C)]
-#[derive(Drop)]
+#[derive(Clone, Copy)]
 pub struct PointAnswer {
     pub refusal: u64,
     pub x: i64,
@@ -21,7 +23,7 @@ pub struct PointAnswer {
 
 // Kind 0: lift; 1: draw; 2: close. In millimetres.
 #[repr(C)]
-#[derive(Drop)]
+#[derive(Clone, Copy)]
 pub struct PenAnswer {
     pub refusal: u64,
     pub kind: u64,

@@ -1,3 +1,5 @@
+#![tactic(auto)]
+
 // The point of a crossed facet: the sums of the weights, each rounded to the nearest 1/1024.
 pub mod rounding;
 

@@ -1,3 +1,5 @@
+#![tactic(auto)]
+
 // The exact sum of a polynomial at a vertex, from its last term to its first; the powers of the coordinates are taken from tables.
 ghost use Rattle.std.specs.Prelude.{◌^◌, ◌≤◌, ◌<◌};
 ghost use Rattle.exact.specs.Size.{Size, Is};

@@ -1,6 +1,8 @@
 // One position of a list that is to be cut: its loop is compared with those of all earlier positions, by a walk along each of them. There is no
 // buffer, so a loop is walked again for each place behind it.
 
+#![tactic(auto)]
+
 ghost use Rattle.std.specs.Prelude.{◌≡◌, suc};
 ghost use Rattle.paper.specs.Answers.{verdict_as};
 ghost use Rattle.job.specs.OpenJob.{JobOf};
@@ -11,7 +13,7 @@ use loops::Past;
 use paper::{Traced, Verdict};
 
 // What is found at a position: its refusal, or the first position whose loop has this one's inside; this position itself if there is none.
-#[derive(Drop)]
+#[derive(Clone, Copy)]
 pub enum Position {
     Refused(u64),
     Outer(u64),

@@ -2,6 +2,8 @@
 // parentheses nest no deeper than 16, so that no reader meets a byte that it cannot read. The dimension and the depth say in the contracts which text
 // it is; nothing branches on them.
 
+#![tactic(auto)]
+
 ghost use Rattle.std.specs.Prelude.{◌≡◌, true, cond, ◌||◌, ◌+◌, ◌<◌};
 ghost use Rattle.formula.specs.Grammar.{axis_of};
 ghost use Rattle.formula.specs.Polynomial.{Kept};
@@ -11,14 +13,14 @@ ghost use Rattle.readers.specs.Ahead.{byte_is, is_digit, AtomAhead, ProductAhead
 use coefficients::InnerResult;
 
 // What was read: where the text goes on, and the inner result.
-#[derive(Drop)]
+#[derive(Clone, Copy)]
 pub struct Part {
     pub next: usize,
     pub result: InnerResult,
 }
 
 // A number: where the text goes on, and its value.
-#[derive(Drop)]
+#[derive(Clone, Copy)]
 struct NumberPart {
     next: usize,
     value: u64,

@@ -1,6 +1,8 @@
 // The product of two polynomials, a row of terms for each term of the first, and the test of its degree. A polynomial is an array of coefficients,
 // one for each monomial of degree at most 4.
 
+#![tactic(auto)]
+
 ghost use Rattle.std.specs.Prelude.{◌≡◌, ◌*◌, ◌<◌};
 ghost use Rattle.exact.specs.Size.{Size};
 ghost use Rattle.paper.specs.Limits.{coefficient_limit};

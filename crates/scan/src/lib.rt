@@ -1,6 +1,8 @@
 // Every seam in a job's box: document 02, request 2.4. The lowest vertices are taken in order, at each of them the facets in order, and a facet that
 // is the least of its seam is written.
 
+#![tactic(auto)]
+
 ghost use Rattle.std.specs.Prelude.{◌≡◌, map, [], ◌∷◌, ◌≤◌};
 ghost use Rattle.curves.specs.Box.{keep, chains};
 ghost use Rattle.paper.specs.Operations.{space_of};
@@ -17,7 +19,7 @@ use places::{HeldPlace, Vertex};
 use seamlist::Seamed;
 
 // After a part of the scan: no space for one more seam, or the number of places written so far.
-#[derive(Drop)]
+#[derive(Clone, Copy)]
 pub enum Scanned {
     Full,
     On(usize),

@@ -1,6 +1,8 @@
 // The answers about the seams of a box, every seam and the order of cutting, as structs of numbers, for C. Refusal 0 is none; beside a refusal, and
 // where an answer does not use a field, the field is 0.
 
+#![tactic(auto)]
+
 ghost use Rattle.std.specs.Prelude.{◌≡◌};
 ghost use Rattle.seamlist.specs.Answers.{seamed_as};
 ghost use Rattle.nesting.specs.Answers.{ordered_as};
@@ -11,7 +13,7 @@ use seamlist::Seamed;
 
 // The seams: 1 full or 0 complete, and the count of places written.
 #[repr(C)]
-#[derive(Drop)]
+#[derive(Clone, Copy)]
 pub struct SeamsAnswer {
     pub refusal: u64,
     pub full: u64,
@@ -20,7 +22,7 @@ pub struct SeamsAnswer {
 
 // Stands 1: the order stands; 0: it does not, and `position` is the first whose loop has a later listed loop inside it.
 #[repr(C)]
-#[derive(Drop)]
+#[derive(Clone, Copy)]
 pub struct OrderAnswer {
     pub refusal: u64,
     pub stands: u64,

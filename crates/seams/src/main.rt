@@ -1,6 +1,8 @@
 // Every seam in the box of a job, as text: reads one job from standard input and prints its lines. What is printed is `lines::put_text`'s; here
 // is nothing but the reading and the writing.
 
+#![tactic(auto)]
+
 mod lines;
 
 ghost use Rattle.std.specs.Prelude.{◌≡◌, length};

@@ -13,7 +13,7 @@ use places::HeldPlace;
 use sides::facet;
 
 // A row of the table, and the index of the vertex left out.
-#[derive(Drop)]
+#[derive(Clone, Copy)]
 pub struct Incident {
     pub row: usize,
     pub out: usize,

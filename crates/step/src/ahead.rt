@@ -14,7 +14,7 @@ use places::{HeldPlace, Vertex};
 use simplices::{corners, exits, search};
 
 // What lies ahead: a vertex outside the box, a value that is not readable, or the next place.
-#[derive(Drop)]
+#[derive(Clone, Copy)]
 pub enum Ahead {
     Edge,
     Limit,

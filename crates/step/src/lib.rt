@@ -1,5 +1,7 @@
 // Step of document 01: the place on the other crossed facet of the simplex that lies on a place's side.
 
+#![tactic(auto)]
+
 ghost use Rattle.std.specs.Prelude.{◌≡◌};
 ghost use Rattle.paper.specs.Operations.{stepped};
 ghost use Rattle.paper.specs.Answers.{stepped_as, padded_step};

@@ -1,5 +1,7 @@
 // The running sum of a polynomial of a job at a vertex, from its last term to its first: request 2.8.
 
+#![tactic(auto)]
+
 ghost use Rattle.std.specs.Prelude.{◌≡◌};
 ghost use Rattle.paper.specs.Answers.{summed_as};
 ghost use Rattle.paper.specs.RunningSum.{running_summed};

@@ -1,6 +1,8 @@
 // The orders of two, of three and of four axes as one constant table, and the masks of the vertices of a simplex with a row's order.
 // Each use of a constant array copies it, so the arrays are short: a row is one number of four hexadecimal digits.
 
+#![tactic(auto)]
+
 ghost use Rattle.std.specs.Prelude.{◌≡◌, ◌/◌, ◌≤◌, ◌<◌, length};
 ghost use Rattle.curves.specs.Grid.{orders};
 ghost use Rattle.bits.specs.Axes.{Axes};

@@ -1,5 +1,7 @@
 // The term list of a polynomial, as the answer to a formula holds it. What it is, is defined in the crate formula, specs/Read.antt.
 
+#![tactic(auto)]
+
 ghost use Rattle.std.specs.Prelude.{◌≡◌, true, [], ◌∷◌, ◌+◌, ◌<◌, ◌≤◌, length};
 ghost use Rattle.std.proofs.lemmas.List.Edits.{sets};
 ghost use Rattle.exact.specs.Size.{Size};

@@ -1,5 +1,7 @@
 // Reading a formula: document 02, request 2.1. The language is decided first, at any depth; so the readers meet no text outside it.
 
+#![tactic(auto)]
+
 ghost use Rattle.std.specs.Prelude.{◌≡◌};
 ghost use Rattle.paper.specs.Operations.{refused};
 ghost use Rattle.formula.specs.Read.{formula_terms, handed_back};

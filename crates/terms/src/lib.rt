@@ -1,6 +1,8 @@
 // A polynomial's terms, 8 bytes each: a signed 32-bit coefficient and four exponent bytes. One pass tests limits and order together: it reads each
 // byte once and carries the least weight that the next term may have.
 
+#![tactic(auto)]
+
 ghost use Rattle.std.specs.Prelude.{◌≡◌, ◌||◌, ◌+◌, ◌*◌, ◌≤◌, ◌<◌, ltb, eqb, length};
 ghost use Rattle.paper.specs.Job.{exponent_of, polynomial_ok};
 ghost use Rattle.bits.specs.Read.{Reads};

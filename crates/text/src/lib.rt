@@ -1,5 +1,7 @@
 // The listing's lines: document 01, section "The listing", written into a lent buffer.
 
+#![tactic(auto)]
+
 ghost use Rattle.std.specs.Prelude.{[], ◌∷◌, ◌+◌, ◌≤◌, pos, length, take};
 ghost use Rattle.paper.specs.Answers.{verdict_as};
 ghost use Rattle.paper.specs.Listing.{blank_numbers, verdict_word, refused_line, first_line, place_line};

@@ -1,5 +1,7 @@
 // Trace of document 01.
 
+#![tactic(auto)]
+
 ghost use Rattle.std.specs.Prelude.{◌≡◌};
 ghost use Rattle.paper.specs.Operations.{traced, space_of, verdict_and_count, buffer_after};
 ghost use Rattle.paper.specs.Answers.{traced_as};

@@ -1,3 +1,5 @@
+#![tactic(auto)]
+
 // Readable sums and values: document 01, section "Crossed", and the bias of request 2.7.
 ghost use Rattle.std.specs.Prelude.{◌≡◌};
 ghost use Rattle.exact.specs.Size.{Size};

@@ -1,6 +1,8 @@
 // The answers of Step and Trace as structs of numbers, for C. Refusal 0 is none; beside a refusal, and where an answer does not use a field, the
 // field is 0.
 
+#![tactic(auto)]
+
 ghost use Rattle.std.specs.Prelude.{◌≡◌};
 ghost use Rattle.paper.specs.Answers.{stepped_as, verdict_as, traced_as};
 ghost use Rattle.walknumbers.specs.Numbers.{without_place, step_numbers, verdict_number, trace_numbers};
@@ -9,7 +11,7 @@ use paper::{Stepped, Traced, Verdict};
 
 // Outcome 0: the next place; 1: edge; 2: limit.
 #[repr(C)]
-#[derive(Drop)]
+#[derive(Clone, Copy)]
 pub struct StepAnswer {
     pub refusal: u64,
     pub outcome: u64,
@@ -25,7 +27,7 @@ pub struct StepAnswer {
 
 // Verdict 0: loop; 1: edge; 2: limit; 3: full.
 #[repr(C)]
-#[derive(Drop)]
+#[derive(Clone, Copy)]
 pub struct TraceAnswer {
     pub refusal: u64,
     pub verdict: u64,

@@ -1,5 +1,7 @@
 // A trace: place after place is written, up to the verdict.
 
+#![tactic(auto)]
+
 ghost use Rattle.std.specs.Prelude.{◌+◌, ◌*◌, ◌≤◌, length};
 ghost use Rattle.step.specs.Held.{Held};
 ghost use Rattle.carried.specs.Carries.{Carries};

@@ -1,6 +1,8 @@
 // A writer over the caller's buffer and its position: it lays contents first and bodies behind them. Each function that takes, makes or hands back
 // one is proved by a walk of its MIR, by hand; the covered functions of `laying` do the work. `lay` has plain parameters and serves every other caller.
 
+#![tactic(auto)]
+
 ghost use Rattle.std.specs.Prelude.{◌≡◌, ◌+◌, ◌≤◌, length};
 ghost use Rattle.assembly.specs.Assembled.{bodies_of, contents_of, job_from};
 ghost use Rattle.laying.specs.Laid.{body_at, Laid};
