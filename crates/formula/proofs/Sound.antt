@@ -276,8 +276,8 @@ module _ (limit n : ℕ) where
   run_sound : {q : State} {s : List ℕ} {f : Formula} (t : List ℕ) → Holds q s → run limit n q t ≡ reads f → Part 0 sum f (s ++ t)
   unfolding run
   run_sound {s = s} {f} [] x e = subst (Part 0 sum f) (sym (append-nil s)) (finished x e)
-  run_sound {s = s} {f} (c ∷ t) x e =
-      subst (Part 0 sum f) (append_assoc s (c ∷ []) t) (run_sound t (each_step x (means n c)) e)
+  run_sound {q = q} {s = s} {f} (c ∷ t) x e =
+      subst (Part 0 sum f) (append_assoc s (c ∷ []) t) (run_sound {q = step limit q (token n c)} t (each_step x (means n c)) e)
 
 pub read_formula : (limit n : ℕ) (s : List ℕ) {f : Formula} → reading_of limit n s ≡ reads f → Text n sum f s
 unfolding reading_of
