@@ -1,0 +1,13 @@
+-- `table::block_size` meets its contract: it computes as the definition does.
+use borrow.Author.Rules.{rules}
+use borrow.Author.Tests.{eq-eqb, ne_eqb}
+use Rattle.table.specs.Table.{block_size}
+use Rattle.table.proofs.block_size.Goals as goal
+
+pub returns-then-n-eq4 : goal.returns-then-n-eq4
+unfolding block_size
+returns-then-n-eq4 c = rw (eq-eqb c.args.n 4 c.if-n-eq4.true)
+
+pub returns : goal.returns
+unfolding block_size
+returns c = rw (ne_eqb c.args.n 4 c.if-n-eq4.false)
