@@ -10,4 +10,4 @@ pub record PartInside (s : List ℕ) (k : ℕ) : Type 0 where
 
 -- a part of lent bytes that begins so many bytes into them: in their block of memory, and so far behind their own offset there
 unfoldable pub BeginsAt : Bor (List ℕ) → ℕ → Bor (List ℕ) → Type 0
-BeginsAt whole offset part = part.ptr ≡ (whole.ptr.0, offset + whole.ptr.1)
+BeginsAt whole offset part = part.ref_ptr ≡ (whole.ref_ptr.0, offset + whole.ref_ptr.1)

@@ -13,7 +13,7 @@ use Rattle.boxes.proofs.box_between.Given as goal
 
 abbrev pub invariant-loop-a : goal.invariant-loop-a
 invariant-loop-a l =
-    box_between (to_z w64 l.lowest) (to_z w64 l.highest) l.n l.b ≡ all_from (axis_between (to_z w64 l.lowest) (to_z w64 l.highest) l.b) l.a (l.n - l.a)
+    box_between l.lowest l.highest l.n l.b ≡ all_from (axis_between l.lowest l.highest l.b) l.a (l.n - l.a)
 
 abbrev pub decreases-loop-a : goal.decreases-loop-a
 decreases-loop-a l = l.n - l.a

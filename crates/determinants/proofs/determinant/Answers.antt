@@ -16,11 +16,11 @@ loop-i-init c = (omega arith, weights_none _)
 
 pub coefficient-sum-requires : goal.coefficient-sum-requires
 coefficient-sum-requires c =
-    (c.requires.0, (c.requires.1, (c.loop-i-test.true, omega (arith, c.loop-i-test.true))))
+    record { cells = c.requires.cells; out_le_n = (c.requires.out_le_n, (c.loop-i-test.true, omega (arith, c.loop-i-test.true))) }
 
 pub overflow_add-sum : goal.overflow_add-sum
 overflow_add-sum c =
-    (weights_next c.requires c.loop-i-test.true c.loop-i.invariant.1 c.coefficient-sum.ensures).0
+    (weights_next (c.requires.cells, c.requires.out_le_n) c.loop-i-test.true c.loop-i.invariant.1 c.coefficient-sum.ensures).0
 
 pub overflow_step-i : goal.overflow_step-i
 overflow_step-i c = omega arith
@@ -31,8 +31,8 @@ loop-i-smaller c = omega arith
 pub loop-i-preserved : goal.loop-i-preserved
 loop-i-preserved c = (
   omega arith,
-  (weights_next c.requires c.loop-i-test.true c.loop-i.invariant.1 c.coefficient-sum.ensures).1,
+  (weights_next (c.requires.cells, c.requires.out_le_n) c.loop-i-test.true c.loop-i.invariant.1 c.coefficient-sum.ensures).1,
 )
 
 pub returns : goal.returns
-returns c = weights_all c.requires (omega (arith, c.loop-i.invariant.0, c.loop-i-test.false)) c.loop-i.invariant.1
+returns c = weights_all (c.requires.cells, c.requires.out_le_n) (omega (arith, c.loop-i.invariant.0, c.loop-i-test.false)) c.loop-i.invariant.1

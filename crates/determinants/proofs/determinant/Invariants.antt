@@ -13,7 +13,7 @@ use Rattle.determinants.proofs.determinant.Given as goal
 
 abbrev pub invariant-loop-i : goal.invariant-loop-i
 invariant-loop-i l =
-    (l.i ≤ l.n) × Is (l.i * coefficient_limit) (sum_to l.i (λ k. coefficient l.n (facet_columns l.n l.cells l.out) k 0)) (to_z w64 l.sum)
+    (l.i ≤ l.n) × Is (l.i * coefficient_limit) (sum_to l.i (λ k. coefficient l.n (facet_columns l.n l.cells l.out) k 0)) l.sum
 
 abbrev pub decreases-loop-i : goal.decreases-loop-i
 decreases-loop-i l = l.n - l.i

@@ -8,4 +8,4 @@ returns-then-row-eq0 c = top_entry c.args.cells.now c.args.row c.args.v c.if-row
 
 pub returns : goal.returns
 returns c =
-    lower_entry c.args.cells.now c.args.row c.args.v c.requires.0 c.if-row-eq0.false
+    lower_entry c.args.cells.now c.args.row c.args.v c.requires.cells_within c.if-row-eq0.false

@@ -24,13 +24,11 @@ skip-a-requires c = omega (arith, c.skip.ensures.1)
 
 pub entry-requires : goal.entry-requires
 entry-requires c =
-    let start = c.requires in
-    (cells_most start.0, (omega arith, omega (arith, c.skip.ensures.1, c.skip-a.ensures.1)))
+    record { cells_within = cells_most c.requires.cells; row_bound = (omega arith, omega (arith, c.skip.ensures.1, c.skip-a.ensures.1)) }
 
 pub returns-then-n-eq2 : goal.returns-then-n-eq2
 returns-then-n-eq2 c =
-    let pre = c.requires in
-    given_one (pre.0, (pre.1.0, (pre.1.1, omega (arith, pre.0.axes.low)))) row-1 c.skip.ensures.0 c.skip-a.ensures.0
+    given_one (c.requires.cells, (c.requires.out_le_n.0, (c.requires.out_le_n.1, omega (arith, c.requires.cells.axes.low)))) row-1 c.skip.ensures.0 c.skip-a.ensures.0
     c.if-n-eq2.true c.entry.ensures
 
 pub skip-b-requires : goal.skip-b-requires
@@ -38,21 +36,17 @@ skip-b-requires c = omega (arith, c.skip-2.ensures.1)
 
 pub two_rows-requires : goal.two_rows-requires
 two_rows-requires c =
-    let pre = c.requires in (
-      cells_most pre.0,
-      (
+    record { cells_within = cells_most c.requires.cells; r_bound = (
         (omega arith, omega arith),
         (
           omega (arith, c.skip.ensures.1, c.skip-a.ensures.1),
           omega (arith, c.skip-2.ensures.1, c.skip-b.ensures.1),
         ),
-      ),
-    )
+      ) }
 
 pub returns-then-n-eq3 : goal.returns-then-n-eq3
 returns-then-n-eq3 c =
-    let pre = c.requires in
-    given_two (pre.0, (pre.1.0, (pre.1.1, omega (arith, pre.0.axes.low)))) row-1 c.skip.ensures.0 c.skip-a.ensures.0
+    given_two (c.requires.cells, (c.requires.out_le_n.0, (c.requires.out_le_n.1, omega (arith, c.requires.cells.axes.low)))) row-1 c.skip.ensures.0 c.skip-a.ensures.0
     row-2 c.skip-2.ensures.0 c.skip-b.ensures.0 c.if-n-eq3.true c.two_rows.ensures
 
 pub skip-c-requires : goal.skip-c-requires
@@ -60,9 +54,7 @@ skip-c-requires c = omega (arith, c.skip-3.ensures.1)
 
 pub three_rows-requires : goal.three_rows-requires
 three_rows-requires c =
-    let pre = c.requires in (
-      cells_four pre.0 (omega (arith, pre.0.axes.low, pre.0.axes.high, c.if-n-eq2.false, c.if-n-eq3.false)),
-      (
+    record { cells_within = cells_four c.requires.cells (omega (arith, c.requires.cells.axes.low, c.requires.cells.axes.high, c.if-n-eq2.false, c.if-n-eq3.false)); r_bound = (
         (omega arith, (omega arith, omega arith)),
         (
           omega (arith, c.skip.ensures.1, c.skip-a.ensures.1),
@@ -71,12 +63,10 @@ three_rows-requires c =
             omega (arith, c.skip-3.ensures.1, c.skip-c.ensures.1),
           ),
         ),
-      ),
-    )
+      ) }
 
 pub returns : goal.returns
 returns c =
-    let pre = c.requires in
-    given_three (pre.0, (pre.1.0, (pre.1.1, omega (arith, pre.0.axes.low)))) row-1 c.skip.ensures.0 c.skip-a.ensures.0
+    given_three (c.requires.cells, (c.requires.out_le_n.0, (c.requires.out_le_n.1, omega (arith, c.requires.cells.axes.low)))) row-1 c.skip.ensures.0 c.skip-a.ensures.0
     row-2 c.skip-2.ensures.0 c.skip-b.ensures.0 row-3 c.skip-3.ensures.0 c.skip-c.ensures.0
     c.if-n-eq2.false c.if-n-eq3.false c.three_rows.ensures

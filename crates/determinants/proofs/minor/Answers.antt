@@ -13,14 +13,14 @@ pub entry-requires : goal.entry-requires
 entry-requires c =
     let skip = c.skip-r in
     let skip2 = c.skip in
-    (cells_most c.requires.0, (omega (arith, skip.ensures.1), omega (arith, skip2.ensures.1, c.skip-a.ensures.1)))
+    record { cells_within = cells_most c.requires.cells; row_bound = (omega (arith, skip.ensures.1), omega (arith, skip2.ensures.1, c.skip-a.ensures.1)) }
 
 pub returns-then-n-eq2 : goal.returns-then-n-eq2
 returns-then-n-eq2 c =
     let skip = c.skip-r in
     let skip2 = c.skip in
     let skip3 = c.skip-a in
-    given_one c.requires skip.ensures.0 skip2.ensures.0 skip3.ensures.0 c.if-n-eq2.true c.entry.ensures
+    given_one (c.requires.cells, c.requires.out_le_n) skip.ensures.0 skip2.ensures.0 skip3.ensures.0 c.if-n-eq2.true c.entry.ensures
 
 pub skip-b-requires : goal.skip-b-requires
 skip-b-requires c = omega (arith, c.skip-2.ensures.1)
@@ -31,13 +31,10 @@ two_rows-requires c =
     let skip2 = c.skip in
     let skip3 = c.skip-a in
     let skip4 = c.skip-s in
-    let skip5 = c.skip-2 in (
-      cells_most c.requires.0,
-      (
+    let skip5 = c.skip-2 in record { cells_within = cells_most c.requires.cells; r_bound = (
         (omega (arith, skip.ensures.1), omega (arith, skip4.ensures.1)),
         (omega (arith, skip2.ensures.1, skip3.ensures.1), omega (arith, skip5.ensures.1, c.skip-b.ensures.1)),
-      ),
-    )
+      ) }
 
 pub returns-then-n-eq3 : goal.returns-then-n-eq3
 returns-then-n-eq3 c =
@@ -47,7 +44,7 @@ returns-then-n-eq3 c =
     let skip4 = c.skip-s in
     let skip5 = c.skip-2 in
     let skip6 = c.skip-b in
-    given_two c.requires skip.ensures.0 skip2.ensures.0 skip3.ensures.0 skip4.ensures.0 skip5.ensures.0
+    given_two (c.requires.cells, c.requires.out_le_n) skip.ensures.0 skip2.ensures.0 skip3.ensures.0 skip4.ensures.0 skip5.ensures.0
     skip6.ensures.0 c.if-n-eq3.true c.two_rows.ensures
 
 pub skip-c-requires : goal.skip-c-requires
@@ -61,16 +58,13 @@ three_rows-requires c =
     let skip4 = c.skip-s in
     let skip5 = c.skip-2 in
     let skip6 = c.skip-b in
-    let skip7 = c.skip-t in (
-      cells_four c.requires.0 (omega (arith, c.requires.0.axes.low, c.requires.0.axes.high)),
-      (
+    let skip7 = c.skip-t in record { cells_within = cells_four c.requires.cells (omega (arith, c.requires.cells.axes.low, c.requires.cells.axes.high)); r_bound = (
         (omega (arith, skip.ensures.1), (omega (arith, skip4.ensures.1), omega (arith, skip7.ensures.1))),
         (
           omega (arith, skip2.ensures.1, skip3.ensures.1),
           (omega (arith, skip5.ensures.1, skip6.ensures.1), omega (arith, c.skip-3.ensures.1, c.skip-c.ensures.1)),
         ),
-      ),
-    )
+      ) }
 
 pub returns : goal.returns
 returns c =
@@ -84,5 +78,5 @@ returns c =
     let if2 = c.if-n-eq3 in
     let skip7 = c.skip-t in
     let skip8 = c.skip-3 in
-    given_three c.requires skip.ensures.0 skip2.ensures.0 skip3.ensures.0 skip4.ensures.0 skip5.ensures.0
+    given_three (c.requires.cells, c.requires.out_le_n) skip.ensures.0 skip2.ensures.0 skip3.ensures.0 skip4.ensures.0 skip5.ensures.0
     skip6.ensures.0 skip7.ensures.0 skip8.ensures.0 c.skip-c.ensures.0 if1.false if2.false c.three_rows.ensures

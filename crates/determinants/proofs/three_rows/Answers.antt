@@ -6,18 +6,18 @@ use Rattle.exact.proofs.SmallDeterminants.{det_three}
 use Rattle.determinants.proofs.three_rows.Goals as goal
 
 pub product-requires : goal.product-requires
-product-requires c = (c.requires.0, (c.requires.1.0, (c.requires.1.1.0, (c.requires.1.1.1.0, c.requires.1.1.1.1))))
+product-requires c = record { cells_within = c.requires.cells_within; r_bound = (c.requires.r_bound.0, (c.requires.r_bound.1.0, (c.requires.r_bound.1.1.0, c.requires.r_bound.1.1.1))) }
 
 pub product-requires-2 : goal.product-requires-2
 product-requires-2 c =
-    (c.requires.0, (c.requires.1.0, (c.requires.1.1.1.0, (c.requires.1.1.0, c.requires.1.1.1.1))))
+    record { cells_within = c.requires.cells_within; r_bound = (c.requires.r_bound.0, (c.requires.r_bound.1.1.0, (c.requires.r_bound.1.0, c.requires.r_bound.1.1.1))) }
 
 pub overflow_sub-result : goal.overflow_sub-result
 overflow_sub-result c = fits_sub (holds_call c.product.ensures (lit≤ tt)) (holds_call c.product-2.ensures (lit≤ tt)) (lit≤ tt)
 
 pub product-requires-3 : goal.product-requires-3
 product-requires-3 c =
-    (c.requires.0, (c.requires.1.0, (c.requires.1.1.1.1, (c.requires.1.1.0, c.requires.1.1.1.0))))
+    record { cells_within = c.requires.cells_within; r_bound = (c.requires.r_bound.0, (c.requires.r_bound.1.1.1, (c.requires.r_bound.1.0, c.requires.r_bound.1.1.0))) }
 
 pub overflow_add-result : goal.overflow_add-result
 overflow_add-result c =

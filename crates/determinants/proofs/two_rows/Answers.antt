@@ -14,13 +14,13 @@ use Rattle.determinants.proofs.two_rows.Goals as goal
 use Rattle.determinants.proofs.two_rows.Goals.{After-entry-4}
 
 pub overflow_mul-result : goal.overflow_mul-result
-overflow_mul-result c = fits_mul (entry_of_two c.requires.0 c.args.r c.args.a c.entry.ensures)
-    (entry_of_two c.requires.0 c.args.s c.args.b c.entry-2.ensures) (lit≤ tt)
+overflow_mul-result c = fits_mul (entry_of_two c.requires.cells_within c.args.r c.args.a c.entry.ensures)
+    (entry_of_two c.requires.cells_within c.args.s c.args.b c.entry-2.ensures) (lit≤ tt)
 
 pub overflow_mul-result-2 : goal.overflow_mul-result-2
 overflow_mul-result-2 c =
-    fits_mul (entry_of_two c.requires.0 c.args.r c.args.b c.entry-3.ensures)
-    (entry_of_two c.requires.0 c.args.s c.args.a c.entry-4.ensures) (lit≤ tt)
+    fits_mul (entry_of_two c.requires.cells_within c.args.r c.args.b c.entry-3.ensures)
+    (entry_of_two c.requires.cells_within c.args.s c.args.a c.entry-4.ensures) (lit≤ tt)
 
 -- the two products
 left :
@@ -30,8 +30,8 @@ left :
     let product = back c.entry.result *ℤ back c.entry-2.result in
     Is (2 ^ 56) (at c.args.r c.args.a ⊗ at c.args.s c.args.b) (back product)
 left c =
-    holds_mul (entry_of_two c.requires.0 c.args.r c.args.a c.entry.ensures)
-    (entry_of_two c.requires.0 c.args.s c.args.b c.entry-2.ensures) (lit≤ tt)
+    holds_mul (entry_of_two c.requires.cells_within c.args.r c.args.a c.entry.ensures)
+    (entry_of_two c.requires.cells_within c.args.s c.args.b c.entry-2.ensures) (lit≤ tt)
 
 right :
     (c : After-entry-4)
@@ -40,8 +40,8 @@ right :
     let product = back c.entry-3.result *ℤ back c.entry-4.result in
     Is (2 ^ 56) (at c.args.r c.args.b ⊗ at c.args.s c.args.a) (back product)
 right c =
-    holds_mul (entry_of_two c.requires.0 c.args.r c.args.b c.entry-3.ensures)
-    (entry_of_two c.requires.0 c.args.s c.args.a c.entry-4.ensures) (lit≤ tt)
+    holds_mul (entry_of_two c.requires.cells_within c.args.r c.args.b c.entry-3.ensures)
+    (entry_of_two c.requires.cells_within c.args.s c.args.a c.entry-4.ensures) (lit≤ tt)
 
 pub overflow_sub-result : goal.overflow_sub-result
 overflow_sub-result c = fits_sub (left (goal.at.overflow_sub-result c).After-entry-4) (right (goal.at.overflow_sub-result c).After-entry-4) (lit≤ tt)

@@ -48,7 +48,7 @@ length_ok-requires c = omega arith
 pub returns-then-not-length_ok : goal.returns-then-not-length_ok
 returns-then-not-length_ok c =
     entries_wrong_length _ _ _ _ _ c.loop-k.invariant.1 c.loop-k-test.true (placed (goal.at.returns-then-not-length_ok c).Else-entry_offset-at)
-    c.entry_length-l.ensures.is (test_failed c.length_ok_lem.ensures c.if-not-length_ok.true-raw)
+    c.entry_length-l.ensures.is (test_failed c.length_ok.ensures c.if-not-length_ok.true-raw)
 
 pub overflow_add-at-in-loop-k : goal.overflow_add-at-in-loop-k
 overflow_add-at-in-loop-k c = omega arith
@@ -64,7 +64,7 @@ loop-k-preserved c =
     (
       omega arith,
       entries_next _ _ _ _ _ c.loop-k.invariant.1 c.loop-k-test.true (placed (goal.at.loop-k-preserved c).Else-entry_offset-at)
-          c.entry_length-l.ensures.is (test_passed c.length_ok_lem.ensures c.if-not-length_ok.false-raw),
+          c.entry_length-l.ensures.is (test_passed c.length_ok.ensures c.if-not-length_ok.false-raw),
     )
 
 pub returns : goal.returns

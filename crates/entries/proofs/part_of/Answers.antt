@@ -13,7 +13,4 @@ use Rattle.entries.proofs.part_of.Goals as goal
 -- part-result-end c = search rules
 
 pub returns : goal.returns
-returns c = (
-  part_begins _ _ refl c.entry_offset-from.ensures.is,
-  part_is _ _ c.entry_offset-from.ensures.is c.entry_length.ensures.is,
-)
+returns c = record { place = part_begins _ _ refl c.entry_offset-from.ensures.is; bytes = part_is _ _ c.entry_offset-from.ensures.is c.entry_length.ensures.is }

@@ -8,8 +8,8 @@ use Rattle.jobnumbers.proofs.open_numbers.Goals as goal
 
 pub returns-in-Refused : goal.returns-in-Refused
 unfolding opened_as open_numbers
-returns-in-Refused c = ap (λ (a : Opened). open_numbers (opened_as a)) (sym c.answer-1.given.1)
+returns-in-Refused c = ap (λ (a : Opened). open_numbers (opened_as a)) (sym c.in-Refused.is)
 
 pub returns-in-Job : goal.returns-in-Job
 unfolding opened_as open_numbers
-returns-in-Job c = ap (λ (a : Opened). open_numbers (opened_as a)) (sym c.answer-in-Job-1.given.1)
+returns-in-Job c = ap (λ (a : Opened). open_numbers (opened_as a)) (sym c.in-Job.is)

@@ -9,8 +9,8 @@ use Rattle.jobnumbers.proofs.sum_numbers.Goals as goal
 
 pub returns-in-Refused : goal.returns-in-Refused
 unfolding summed_as sum_numbers
-returns-in-Refused c = ap (λ (a : Summed). sum_numbers (summed_as a)) (sym c.answer-1.given.1)
+returns-in-Refused c = ap (λ (a : Summed). sum_numbers (summed_as a)) (sym c.in-Refused.is)
 
 pub returns-in-Sum : goal.returns-in-Sum
 unfolding summed_as sum_numbers
-returns-in-Sum c = sum_at (record { sfits = c.known_told-in-Sum-1.given.0.1 }) ∙ ap (λ (a : Summed). sum_numbers (summed_as a)) (sym c.answer-in-Sum-1.given.1)
+returns-in-Sum c = sum_at (search rules) ∙ ap (λ (a : Summed). sum_numbers (summed_as a)) (sym c.in-Sum.is)

@@ -8,8 +8,8 @@ use Rattle.jobnumbers.proofs.write_numbers.Goals as goal
 
 pub returns-in-Refused : goal.returns-in-Refused
 unfolding written_as write_numbers
-returns-in-Refused c = ap (λ (a : JobWritten). write_numbers (written_as a)) (sym c.answer-1.given.1)
+returns-in-Refused c = ap (λ (a : JobWritten). write_numbers (written_as a)) (sym c.in-Refused.is)
 
 pub returns-in-Length : goal.returns-in-Length
 unfolding written_as write_numbers
-returns-in-Length c = ap (λ (a : JobWritten). write_numbers (written_as a)) (sym c.answer-in-Length-1.given.1)
+returns-in-Length c = ap (λ (a : JobWritten). write_numbers (written_as a)) (sym c.in-Length.is)

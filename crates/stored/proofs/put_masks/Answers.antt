@@ -10,11 +10,11 @@ put_mask-requires c = mask_room _ _ refl c.args.p c.requires 0 (omega arith)
 
 pub put_mask-requires-2 : goal.put_mask-requires-2
 put_mask-requires-2 c =
-    mask_room _ _ c.put_mask.auto.0 c.args.p c.requires 1 (omega arith)
+    mask_room _ _ c.put_mask.auto.buffer c.args.p c.requires 1 (omega arith)
 
 pub put_mask-requires-3 : goal.put_mask-requires-3
 put_mask-requires-3 c =
-    mask_room _ _ (c.put_mask-2.auto.0 ∙ c.put_mask.auto.0) c.args.p c.requires 2 (omega arith)
+    mask_room _ _ (c.put_mask-2.auto.buffer ∙ c.put_mask.auto.buffer) c.args.p c.requires 2 (omega arith)
 
 pub returns : goal.returns
 returns c =

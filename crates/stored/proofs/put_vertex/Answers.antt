@@ -12,15 +12,15 @@ put_coordinate-requires c =
 
 pub put_coordinate-requires-2 : goal.put_coordinate-requires-2
 put_coordinate-requires-2 c =
-    coordinate_room _ _ c.put_coordinate.auto.0 c.args.v c.requires 1 (omega arith)
+    coordinate_room _ _ c.put_coordinate.auto.buffer c.args.v c.requires 1 (omega arith)
 
 pub put_coordinate-requires-3 : goal.put_coordinate-requires-3
 put_coordinate-requires-3 c =
-    coordinate_room _ _ (c.put_coordinate-2.auto.0 ∙ c.put_coordinate.auto.0) c.args.v c.requires 2 (omega arith)
+    coordinate_room _ _ (c.put_coordinate-2.auto.buffer ∙ c.put_coordinate.auto.buffer) c.args.v c.requires 2 (omega arith)
 
 pub put_coordinate-requires-4 : goal.put_coordinate-requires-4
 put_coordinate-requires-4 c =
-    coordinate_room _ _ (c.put_coordinate-3.auto.0 ∙ c.put_coordinate-2.auto.0 ∙ c.put_coordinate.auto.0) c.args.v
+    coordinate_room _ _ (c.put_coordinate-3.auto.buffer ∙ c.put_coordinate-2.auto.buffer ∙ c.put_coordinate.auto.buffer) c.args.v
     c.requires 3 (omega arith)
 
 pub returns : goal.returns

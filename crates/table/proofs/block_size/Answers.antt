@@ -1,5 +1,4 @@
 -- `table::block_size` meets its contract: it computes as the definition does.
-use borrow.Author.Rules.{rules}
 use borrow.Author.Tests.{eq-eqb, ne_eqb}
 use Rattle.table.specs.Table.{block_size}
 use Rattle.table.proofs.block_size.Goals as goal

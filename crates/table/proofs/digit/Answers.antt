@@ -1,6 +1,5 @@
 -- `table::digit` meets its contract: it computes as the definition does.
 use mathlib.Core.Path.{refl}
-use borrow.Author.Rules.{rules}
 use Rattle.table.specs.Table.{digit_at}
 use Rattle.table.proofs.digit.Goals as goal
 

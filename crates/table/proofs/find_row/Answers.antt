@@ -35,19 +35,26 @@ loop-row-init c =
     (omega (arith, some (goal.at.loop-row-init c).After-first-begin), search_starts c.args.n c.args.order c.requires c.block_size-size.ensures)
 
 -- the row that the loop looks at
-tabled : (c : In-loop-row) → InTable c.args.n c.loop-row.row
+tabled : (c : In-loop-row-unread) → InTable c.args.n c.loop-row.row
 tabled c =
     block_row c.args.n c.args.order c.requires c.block_size-size.ensures c.loop-row.row (omega arith)
+
+inside : (c : In-loop-row-unread) → c.first-begin.result + c.loop-row.row < 32
+inside c = row_inside_lem c.args.n c.loop-row.row (tabled c) c.first-begin.ensures
 
 pub bounds-table-begin : goal.bounds-table-begin
 bounds-table-begin c =
     row_inside_lem c.args.n c.loop-row.row (tabled (goal.at.bounds-table-begin c).In-loop-row-unread) c.first-begin.ensures
 
 pub overflow_add-begin : goal.overflow_add-begin
-overflow_add-begin c = omega (arith, array-read-wide-order (goal.at.overflow_add-begin c).In-loop-row-unread)
+overflow_add-begin c = omega (arith, inside (goal.at.overflow_add-begin c).In-loop-row-unread)
 
 pub offset_bounds-table-begin : goal.offset_bounds-table-begin
-offset_bounds-table-begin c = omega (arith, array-read-wide-order (goal.at.offset_bounds-table-begin c).In-loop-row-unread)
+offset_bounds-table-begin c = omega (arith, inside (goal.at.offset_bounds-table-begin c).In-loop-row-unread)
+
+row_tabled : (c : After-wide_order) → InTable c.args.n c.loop-row.row
+row_tabled c =
+    block_row c.args.n c.args.order c.requires c.block_size-size.ensures c.loop-row.row (omega arith)
 
 -- what is compared is the row's digits
 word :
@@ -55,7 +62,7 @@ word :
     → c.wide_order.result ≡ order_word (order_at c.args.n c.loop-row.row)
 word c =
     c.wide_order.ensures
-    ∙ word_is c.args.n c.loop-row.row (tabled c.before) c.first-begin.ensures
+    ∙ word_is c.args.n c.loop-row.row (row_tabled c) c.first-begin.ensures
 
 pub returns-then-wide_order-order : goal.returns-then-wide_order-order
 returns-then-wide_order-order c =

@@ -1,6 +1,5 @@
 -- `table::rows` meets its contract: the rows of n axes end where those of the next begin (`rows_end`).
 use native.Mathlib.Omega.{arith}
-use borrow.Author.Rules.{rules}
 use Rattle.table.proofs.TableRows.{rows_end}
 use Rattle.table.proofs.rows.Goals as goal
 
