@@ -20,3 +20,6 @@ offset_bounds-first c = omega (arith, inside (goal.at.offset_bounds-first c).Aft
 pub returns : goal.returns
 returns c =
     c.wide_order.ensures ∙ word_is c.args.n c.args.row c.requires c.first.ensures
+
+pub bounds-first : goal.bounds-first
+bounds-first c = inside (goal.at.bounds-first c).After-first

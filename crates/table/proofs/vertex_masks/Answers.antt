@@ -18,3 +18,6 @@ offset_bounds-first c = omega (arith, inside (goal.at.offset_bounds-first c).Aft
 
 pub returns : goal.returns
 returns c = digits_are c.args.n c.args.row c.requires c.first.ensures
+
+pub bounds-first : goal.bounds-first
+bounds-first c = inside (goal.at.bounds-first c).After-first
