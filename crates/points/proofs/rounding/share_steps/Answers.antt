@@ -7,6 +7,7 @@ use native.Mathlib.Omega.{arith}
 use lib.IntN.{pos}
 use Rattle.points.proofs.Doubling.{Doubled, doubled_begin, doubled_low, doubled_high, doubled_few, steps_down, steps_up, steps_half}
 use Rattle.points.proofs.rounding.share_steps.Goals as goal
+use Rattle.points.proofs.rounding.share_steps.Goals.{then-den-rest, else-den-rest}
 
 pub loop-k-init : goal.loop-k-init
 loop-k-init c = (omega arith, doubled_begin _ _ (omega arith))
@@ -32,20 +33,20 @@ loop-k-preserved c =
     let num = c.args.num in
     let den = c.args.den in
     let loop = c.loop-k in
-    ⊎_elim
-    (λ w. (
-      omega arith,
-      subst (λ q. Doubled (loop.k + 1) num den q c.if-den-rest.rest) (sym (w.1 ∙ omega arith))
-          (subst (λ r. Doubled (loop.k + 1) num den (2 * loop.steps + 1) r) (sym w.2)
-          (doubled_high _ _ _ _ _ loop.invariant.1 w.0.taken)),
-    ))
-    (λ w. (
-      omega arith,
-      subst (λ q. Doubled (loop.k + 1) num den q c.if-den-rest.rest) (sym w.1)
-          (subst (λ r. Doubled (loop.k + 1) num den (2 * loop.steps) r) (sym w.2)
-          (doubled_low _ _ _ _ _ loop.invariant.1 w.0.left)),
-    ))
-    c.if-den-rest.branch
+    elim c.if-den-rest.branch [
+      then-den-rest w ↦ (
+        omega arith,
+        subst (λ q. Doubled (loop.k + 1) num den q c.if-den-rest.rest) (sym (w.steps-is ∙ omega arith))
+            (subst (λ r. Doubled (loop.k + 1) num den (2 * loop.steps + 1) r) (sym w.rest-is)
+            (doubled_high _ _ _ _ _ loop.invariant.1 w.if-den-rest.true)),
+      )
+      | else-den-rest w ↦ (
+        omega arith,
+        subst (λ q. Doubled (loop.k + 1) num den q c.if-den-rest.rest) (sym w.steps-is)
+            (subst (λ r. Doubled (loop.k + 1) num den (2 * loop.steps) r) (sym w.rest-is)
+            (doubled_low _ _ _ _ _ loop.invariant.1 w.if-den-rest.false)),
+      )
+    ]
 
 pub overflow_mul-rest-2 : goal.overflow_mul-rest-2
 overflow_mul-rest-2 c = omega (arith, c.loop-k.invariant.1.small, c.requires.1.1)
