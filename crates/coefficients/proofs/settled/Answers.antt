@@ -15,8 +15,7 @@ returns-then-within c =
     result_within c.args.p c.if-not-fine.false-raw c.within.ensures c.requires c.if-within.true
 
 pub returns : goal.returns
-returns c =
-    (
-      result_outside c.args.p c.if-not-fine.false-raw c.within.ensures c.if-within.false c.broken-2.ensures.0,
-      c.broken-2.ensures.1,
-    )
+returns c = (
+  result_outside c.args.p c.if-not-fine.false-raw c.within.ensures c.if-within.false c.broken-2.ensures.0,
+  c.broken-2.ensures.1,
+)

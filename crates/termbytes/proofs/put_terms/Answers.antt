@@ -51,5 +51,5 @@ pub returns : goal.returns
 unfolding monomial_count
 returns c =
     let whole : (c.loop-k.at ≡ length (term_list c.args.cells.now)) × (c.loop-k.bytes ≡ sets c.args.bytes.now 0 (term_list c.args.cells.now)) =
-      terms_whole c.loop-k.invariant (omega (arith, c.loop-k-test.false)) in
+    terms_whole c.loop-k.invariant (omega (arith, c.loop-k-test.false)) in
     record { value = whole.0; bytes_after = whole.1 }
