@@ -1,5 +1,5 @@
 -- Marked texts, by computation from the definitions: refusals, then term lists. What the first two definitions unfold is all that is computed with.
-use Prim.Native.Nat.{ℕ, ◌-◌}
+use Prim.Native.Nat.{ℕ}
 use mathlib.Core.Path.{◌≡◌, refl}
 use mathlib.Core.List.{List, [], ◌∷◌, flat_map}
 use Rattle.exact.specs.Int.{◌⊕◌, ◌⊖◌, ◌⊗◌, neg}

@@ -8,7 +8,7 @@ use lib.Dec.{leb, ltb}
 use lib.ListN.{length}
 use borrow.Author.Tests.{ltb-true, leb-true}
 use Rattle.formula.specs.Grammar.{Formula, number, parens, raised, times, plus, minus, negative, nesting, Digits, one_digit, more_digits, Kind, sum, product, power, atom, Text, of_number, of_letter, of_parens, of_atom, of_raised, of_power, of_times, of_product, of_negative, of_plus, of_minus}
-use Rattle.formula.specs.Reader.{Token, Left, none, negated, added, taken, sum_with, Factor, one, by, product_with, Level, State, expect, in_number, after_atom, after_caret, in_product, in_sum, failed, closed, step_sum, step_product, step_atom, step_number, step_caret, step_expect, step, Reading, outside, reads, ends, finish, run, reading_of}
+use Rattle.formula.specs.Reader.{Token, Left, none, negated, added, taken, sum_with, Factor, one, by, product_with, Level, State, expect, in_number, after_atom, after_caret, in_product, in_sum, failed, closed, step_sum, step_product, step_atom, step_number, step_caret, step_expect, step, Reading, outside, reads, ends, finish, run, reading_of, token}
 use Rattle.formula.specs.Read.{is_read}
 use Rattle.formula.proofs.Tokens.{Means, a_digit, a_letter, an_opening, a_closing, a_star, a_plus, a_minus, a_caret, a_foreign, means}
 use Rattle.formula.proofs.Nesting.{larger_within}

@@ -1,0 +1,14 @@
+-- `rows::multiplied` meets its contract. The loop's invariant: the first i rows are added (`RowsTo`).
+use Prim.Native.Nat.{◌-◌}
+use native.Mathlib.Omega.{arith}
+use borrow.Author.Rules.{rules}
+use Rattle.formula.specs.Polynomial.{monomial_count, cell}
+use Rattle.rows.proofs.CoefficientBits.{coefficient_held}
+use Rattle.rows.proofs.RowsAdded.{RowsTo, rows_start, rows_next, rows_end}
+use Rattle.rows.proofs.multiplied.Given as goal
+
+abbrev pub invariant-loop-i : goal.invariant-loop-i
+invariant-loop-i l = RowsTo l.p l.q l.i l.r
+
+abbrev pub decreases-loop-i : goal.decreases-loop-i
+decreases-loop-i l = 70 - l.i
