@@ -16,7 +16,7 @@ use Rattle.exact.specs.Crossed.{count_from}
 use Rattle.exact.proofs.CountFrom.{map_count_from_suc}
 use Rattle.curves.specs.Grid.{Vertex}
 use Rattle.curves.specs.Step.{column, every}
-use Rattle.paper.specs.Job.{dimension, bias, body}
+use Rattle.paper.specs.Job.{bias, body}
 use Rattle.paper.specs.Values.{raw_sum, readable_sum, value_of, sums, field_from, field_of}
 use Rattle.paper.proofs.Tests.{every_all}
 use Rattle.job.specs.OpenJob.{JobOf}

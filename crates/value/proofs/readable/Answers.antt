@@ -1,5 +1,4 @@
 -- `value::readable` meets its contract: it compares the size with the limit.
-use borrow.Author.Rules.{rules}
 use Rattle.exact.proofs.Bits.{back_is}
 use Rattle.paper.specs.Values.{readable_sum}
 use Rattle.polynomial.proofs.Limits.{sum_word}

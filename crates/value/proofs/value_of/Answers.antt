@@ -2,7 +2,6 @@
 use mathlib.Core.Path.{◌≡◌, sym, ap, ◌∙◌}
 use native.Mathlib.Omega.{arith}
 use lib.IntN.{nat_abs}
-use borrow.Author.Rules.{rules}
 use Rattle.exact.proofs.Bits.{back_is}
 use Rattle.paper.proofs.BiasedValues.{value_small, value_large}
 use Rattle.polynomial.proofs.Limits.{sum_word}
