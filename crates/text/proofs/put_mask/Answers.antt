@@ -2,7 +2,6 @@
 use native.Mathlib.Omega.{arith}
 use Rattle.decimals.proofs.WrittenParts.{writes_then, writes_as}
 use Rattle.text.proofs.LineParts.{blank_mask}
-use borrow.Author.Rules.{rules}
 use Rattle.text.proofs.put_mask.Goals as goal
 
 pub returns : goal.returns

@@ -4,7 +4,6 @@ use native.Mathlib.Omega.{arith}
 use lib.IntN.{pos}
 use Rattle.decimals.proofs.WrittenParts.{writes_then, writes_as}
 use Rattle.text.proofs.LineParts.{one_shown, two_shown, three_shown}
-use borrow.Author.Rules.{rules}
 use Rattle.text.proofs.put_masks.Goals as goal
 
 pub returns-then-k-eq1 : goal.returns-then-k-eq1

@@ -7,7 +7,6 @@ use Rattle.paper.specs.Listing.{signed_decimal}
 use Rattle.decimals.proofs.WrittenParts.{writes_then, writes_as}
 use Rattle.bits.proofs.SignedBits.{bits_are}
 use Rattle.text.proofs.LineParts.{blank_number}
-use borrow.Author.Rules.{rules}
 use Rattle.text.proofs.put_next.Goals as goal
 
 pub returns : goal.returns

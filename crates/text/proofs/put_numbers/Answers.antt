@@ -3,7 +3,6 @@ use native.Mathlib.Omega.{arith}
 use Rattle.bits.proofs.SignedBits.{bits_are}
 use Rattle.decimals.proofs.WrittenParts.{writes_then, writes_as}
 use Rattle.text.proofs.LineParts.{one_shown, two_shown, three_shown}
-use borrow.Author.Rules.{rules}
 use Rattle.text.proofs.put_numbers.Goals as goal
 
 pub returns-then-m-eq1 : goal.returns-then-m-eq1

@@ -3,7 +3,6 @@ use mathlib.Core.Path.{refl}
 use native.Mathlib.Omega.{arith}
 use Rattle.paper.specs.Listing.{refused_line}
 use Rattle.decimals.proofs.WrittenParts.{writes_then, writes_as}
-use borrow.Author.Rules.{rules}
 use Rattle.text.proofs.put_refused.Goals as goal
 
 -- GONE slice-aggregate-put-word
