@@ -5,7 +5,6 @@ use mathlib.Core.Bool.{true}
 use Prim.Native.Nat.{◌-◌}
 use native.Mathlib.Omega.{arith}
 use lib.ListN.{length}
-use borrow.Author.Rules.{rules}
 use Rattle.curves.specs.Grid.{place_ok}
 use Rattle.paper.specs.Job.{box_ok, all_from, polynomial_ok, decode_place}
 use Rattle.assembly.specs.LooseRefusal.{lengths_ok}

@@ -1,18 +1,11 @@
 -- `loose::job_length` meets its contract: after k turns it is the length of the contents and the first k bodies.
-use mathlib.Core.Path.{◌≡◌, ap, ◌∙◌}
-use mathlib.Core.Bool.{true}
-use mathlib.Core.List.{List, []}
-use Prim.Native.Nat.{ℕ, ◌+◌, ◌*◌, ◌-◌, ◌≤◌, ◌<◌}
-use native.Mathlib.Omega.{arith}
-use lib.ListN.{length, get_or}
+use mathlib.Core.Path.{◌≡◌}
+use mathlib.Core.List.{List}
+use Prim.Native.Nat.{ℕ, ◌+◌, ◌*◌, ◌-◌, ◌≤◌}
+use lib.ListN.{length}
 use Rattle.paper.specs.Job.{contents_end}
-use Rattle.bits.specs.Axes.{Axes}
 use Rattle.assembly.specs.Assembled.{bodies_of}
-use Rattle.assembly.specs.LooseRefusal.{lengths_ok}
-use Rattle.assembly.proofs.Entries.{kind_small, kind_at}
 use Rattle.laying.specs.Laid.{body_at}
-use Rattle.laying.proofs.Behind.{offset_more}
-use Rattle.laying.proofs.BodyRead.{body_read}
 use Rattle.loose.proofs.job_length.Given as goal
 
 pub record Summed (n : ℕ) (f : ℕ → List ℕ) (total k : ℕ) : Type 0 where

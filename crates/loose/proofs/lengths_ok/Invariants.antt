@@ -1,13 +1,10 @@
 -- `loose::lengths_ok` meets its contract. The invariant: the test of all bodies is the test of those that are left.
-use mathlib.Core.Path.{◌≡◌, ap, ◌∙◌}
+use mathlib.Core.Path.{◌≡◌}
 use Prim.Native.Nat.{◌+◌, ◌-◌}
-use native.Mathlib.Omega.{arith}
 use lib.ListN.{length}
 use Rattle.paper.specs.Job.{length_ok, all_from}
-use Rattle.paper.proofs.RangeSteps.{test_failed, test_passed, all_next, all_stops, all_ends}
 use Rattle.assembly.specs.LooseRefusal.{lengths_ok}
 use Rattle.laying.specs.Laid.{body_at}
-use Rattle.laying.proofs.BodyRead.{body_read}
 use Rattle.loose.proofs.lengths_ok.Given as goal
 
 abbrev pub invariant-loop-k : goal.invariant-loop-k

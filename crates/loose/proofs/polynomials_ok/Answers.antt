@@ -1,9 +1,7 @@
 -- `loose::polynomials_ok` meets its contract. The invariant: the test of all polynomials is the test of those that are left.
 use mathlib.Core.Path.{◌≡◌, sym, refl, ap, ◌∙◌}
-use Prim.Native.Nat.{◌-◌}
 use native.Mathlib.Omega.{arith}
-use borrow.Author.Rules.{rules}
-use Rattle.paper.specs.Job.{all_from, polynomial_ok}
+use Rattle.paper.specs.Job.{polynomial_ok}
 use Rattle.paper.proofs.RangeSteps.{all_next, all_stops, all_ends}
 use Rattle.laying.specs.Laid.{body_at}
 use Rattle.laying.proofs.BodyRead.{body_read}

@@ -1,12 +1,8 @@
 -- `loose::polynomials_ok` meets its contract. The invariant: the test of all polynomials is the test of those that are left.
-use mathlib.Core.Path.{◌≡◌, refl, ap, ◌∙◌}
+use mathlib.Core.Path.{◌≡◌}
 use Prim.Native.Nat.{◌-◌}
-use native.Mathlib.Omega.{arith}
-use borrow.Author.Rules.{rules}
 use Rattle.paper.specs.Job.{all_from, polynomial_ok}
-use Rattle.paper.proofs.RangeSteps.{test_failed, test_passed, all_next, all_stops, all_ends}
 use Rattle.laying.specs.Laid.{body_at}
-use Rattle.laying.proofs.BodyRead.{body_read}
 use Rattle.loose.proofs.polynomials_ok.Given as goal
 
 abbrev pub invariant-loop-k : goal.invariant-loop-k
