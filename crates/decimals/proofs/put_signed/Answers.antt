@@ -2,7 +2,6 @@
 use native.Mathlib.Omega.{arith}
 use Rattle.decimals.proofs.WrittenParts.{writes_then, writes_as}
 use Rattle.decimals.proofs.SignedText.{text_under, text_from}
-use borrow.Author.Rules.{rules}
 use Rattle.decimals.proofs.put_signed.Goals as goal
 
 pub returns-then-z-lt0 : goal.returns-then-z-lt0

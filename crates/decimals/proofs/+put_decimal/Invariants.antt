@@ -1,0 +1,5 @@
+-- The measure is the number: a tenth of it is less.
+use Rattle.decimals.proofs.+put_decimal.Given as goal
+
+abbrev pub decreases-put_decimal : goal.decreases-put_decimal
+decreases-put_decimal l = l.a
