@@ -14,7 +14,7 @@ import re
 HERE = os.path.dirname(os.path.realpath(__file__))
 WORD = re.compile(r"[^\s(){}.;,@\"«»\[\]|:`]+")
 FIELD = re.compile(r"^ +(?:pub )?([^\s(){}.;,@\"«»]+)(?: \([^()]*\))* :(?: |$)")
-PATH = re.compile(r"Rattle·(\w+)(?:·(?:specs|proofs)\.(?=specs|proofs))?")
+PATH = re.compile(r"Rattle·(\w+?)(?:·(?:specs|proofs)(?=\.(?:specs|proofs)))?(?![\w·])")
 OPERATOR = re.compile(r"(?<![\w◌])_([⊑⊕⊖⊗⊞⊟≡+*≤<∷/%^-]|\+\+|&&)_(?!\w)")
 HEAD = re.compile(r"(?<![^\s(){};,])(?:[\w.]*\.)?([A-Z]\w*)\.$")
 SPAN = re.compile(r"(`+)(?:[^\n]|\n(?!\s*\n))*?\1")
