@@ -14,7 +14,7 @@ use Rattle.boxes.proofs.axis_between.Goals.{After-signed_word-high}
 
 -- the definition's three tests, of the numbers that were read
 tests : (c : After-signed_word-high)
-    → 
+    →
     axis_between c.args.lowest c.args.highest c.args.b.now c.args.a
     ≡ (le_z (back c.args.lowest) (back c.signed_word-low.result)
     && (lt_z (back c.signed_word-low.result) (back c.signed_word-high.result) && le_z (back c.signed_word-high.result) (back c.args.highest)))

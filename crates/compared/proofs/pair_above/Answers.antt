@@ -28,8 +28,11 @@ returns-then-first-lt0 c =
 pub tied_above-requires : goal.tied_above-requires
 tied_above-requires c =
     let a = c.args in
-    let pre = c.requires in record { cells = pre; q_value = found_zero a.n a.cells.now a.q a.r pre.1.0 0 (omega (arith, pre.0.axes.low))
+    let pre = c.requires in record {
+      cells = pre;
+      q_value = found_zero a.n a.cells.now a.q a.r pre.1.0 0 (omega (arith, pre.0.axes.low))
           (passed_begin a.n a.cells.now a.q a.r pre.1.0)
           (pair_first (pre.0, (omega (arith, pre.1.0, pre.1.1), (omega (arith, pre.1.0, pre.1.1), omega (arith, pre.0.axes.low))))
           c.leading_minor-first.ensures refl)
-          c.if-first-gt0.false c.if-first-lt0.false }
+          c.if-first-gt0.false c.if-first-lt0.false;
+    }

@@ -26,10 +26,13 @@ pub copy_values-requires : goal.copy_values-requires
 copy_values-requires c =
     let a = c.requires.masks_under.1.axes in
     let loop = c.loop-k in
-    let under = mask_under a c.requires.masks_under.0 loop.k (omega (arith, c.loop-k-test.true, a.high)) in record { axes = (a, (c.requires.within.0, record { entries = loop.invariant.1.within.entries })); i_in_bounds = (
+    let under = mask_under a c.requires.masks_under.0 loop.k (omega (arith, c.loop-k-test.true, a.high)) in record {
+      axes = (a, (c.requires.within.0, record { entries = loop.invariant.1.within.entries }));
+      i_in_bounds = (
         omega (arith, c.mask_at-m.ensures, under, corners_few _ a, c.requires.within.1.0),
         (omega (arith, c.loop-k-test.true, a.high, loop.invariant.1.within.count), (omega (arith, c.requires.within.1.0), omega (arith, loop.invariant.1.within.count))),
-      ) }
+      );
+    }
 
 pub overflow_add-k : goal.overflow_add-k
 overflow_add-k c = omega (arith, c.loop-k.invariant.0, c.requires.masks_under.1.axes.high)

@@ -36,13 +36,16 @@ skip-b-requires c = omega (arith, c.skip-2.ensures.1)
 
 pub two_rows-requires : goal.two_rows-requires
 two_rows-requires c =
-    record { cells_within = cells_most c.requires.cells; r_bound = (
+    record {
+      cells_within = cells_most c.requires.cells;
+      r_bound = (
         (omega arith, omega arith),
         (
           omega (arith, c.skip.ensures.1, c.skip-a.ensures.1),
           omega (arith, c.skip-2.ensures.1, c.skip-b.ensures.1),
         ),
-      ) }
+      );
+    }
 
 pub returns-then-n-eq3 : goal.returns-then-n-eq3
 returns-then-n-eq3 c =
@@ -54,7 +57,9 @@ skip-c-requires c = omega (arith, c.skip-3.ensures.1)
 
 pub three_rows-requires : goal.three_rows-requires
 three_rows-requires c =
-    record { cells_within = cells_four c.requires.cells (omega (arith, c.requires.cells.axes.low, c.requires.cells.axes.high, c.if-n-eq2.false, c.if-n-eq3.false)); r_bound = (
+    record {
+      cells_within = cells_four c.requires.cells (omega (arith, c.requires.cells.axes.low, c.requires.cells.axes.high, c.if-n-eq2.false, c.if-n-eq3.false));
+      r_bound = (
         (omega arith, (omega arith, omega arith)),
         (
           omega (arith, c.skip.ensures.1, c.skip-a.ensures.1),
@@ -63,7 +68,8 @@ three_rows-requires c =
             omega (arith, c.skip-3.ensures.1, c.skip-c.ensures.1),
           ),
         ),
-      ) }
+      );
+    }
 
 pub returns : goal.returns
 returns c =

@@ -31,10 +31,13 @@ two_rows-requires c =
     let skip2 = c.skip in
     let skip3 = c.skip-a in
     let skip4 = c.skip-s in
-    let skip5 = c.skip-2 in record { cells_within = cells_most c.requires.cells; r_bound = (
+    let skip5 = c.skip-2 in record {
+      cells_within = cells_most c.requires.cells;
+      r_bound = (
         (omega (arith, skip.ensures.1), omega (arith, skip4.ensures.1)),
         (omega (arith, skip2.ensures.1, skip3.ensures.1), omega (arith, skip5.ensures.1, c.skip-b.ensures.1)),
-      ) }
+      );
+    }
 
 pub returns-then-n-eq3 : goal.returns-then-n-eq3
 returns-then-n-eq3 c =
@@ -58,13 +61,16 @@ three_rows-requires c =
     let skip4 = c.skip-s in
     let skip5 = c.skip-2 in
     let skip6 = c.skip-b in
-    let skip7 = c.skip-t in record { cells_within = cells_four c.requires.cells (omega (arith, c.requires.cells.axes.low, c.requires.cells.axes.high)); r_bound = (
+    let skip7 = c.skip-t in record {
+      cells_within = cells_four c.requires.cells (omega (arith, c.requires.cells.axes.low, c.requires.cells.axes.high));
+      r_bound = (
         (omega (arith, skip.ensures.1), (omega (arith, skip4.ensures.1), omega (arith, skip7.ensures.1))),
         (
           omega (arith, skip2.ensures.1, skip3.ensures.1),
           (omega (arith, skip5.ensures.1, skip6.ensures.1), omega (arith, c.skip-3.ensures.1, c.skip-c.ensures.1)),
         ),
-      ) }
+      );
+    }
 
 pub returns : goal.returns
 returns c =

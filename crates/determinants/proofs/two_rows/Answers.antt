@@ -25,7 +25,7 @@ overflow_mul-result-2 c =
 -- the two products
 left :
     (c : After-entry-4)
-    → 
+    →
     let at = entry_at c.args.cells.now in
     let product = back c.entry.result *ℤ back c.entry-2.result in
     Is (2 ^ 56) (at c.args.r c.args.a ⊗ at c.args.s c.args.b) (back product)
@@ -35,7 +35,7 @@ left c =
 
 right :
     (c : After-entry-4)
-    → 
+    →
     let at = entry_at c.args.cells.now in
     let product = back c.entry-3.result *ℤ back c.entry-4.result in
     Is (2 ^ 56) (at c.args.r c.args.b ⊗ at c.args.s c.args.a) (back product)

@@ -60,12 +60,11 @@ pub loop-k-smaller : goal.loop-k-smaller
 loop-k-smaller c = omega arith
 
 pub loop-k-preserved : goal.loop-k-preserved
-loop-k-preserved c =
-    (
-      omega arith,
-      entries_next _ _ _ _ _ c.loop-k.invariant.1 c.loop-k-test.true (placed (goal.at.loop-k-preserved c).Else-entry_offset-at)
-          c.entry_length-l.ensures.is (test_passed c.length_ok.ensures c.if-not-length_ok.false-raw),
-    )
+loop-k-preserved c = (
+  omega arith,
+  entries_next _ _ _ _ _ c.loop-k.invariant.1 c.loop-k-test.true (placed (goal.at.loop-k-preserved c).Else-entry_offset-at)
+      c.entry_length-l.ensures.is (test_passed c.length_ok.ensures c.if-not-length_ok.false-raw),
+)
 
 pub returns : goal.returns
 returns c = entries_end _ _ _ _ _ c.loop-k.invariant.1 c.loop-k-test.false

@@ -21,7 +21,7 @@ use Rattle.facets.proofs.crossed.Goals.{After-sign_of-found, After-sign_of-side,
 -- `side` is the number of D's sign
 side_is :
     (c : After-sign_of-side)
-    → 
+    →
     let columns = facet_columns c.args.n c.args.cells.now c.args.out in
     c.sign_of-side.result ≡ sign_number (sign (determinant c.args.n columns))
 side_is c = c.sign_of-side.ensures ∙ ap (λ z. sign_number (sign z)) (holds_call c.determinant.ensures (lit≤ tt)).is
@@ -29,7 +29,7 @@ side_is c = c.sign_of-side.ensures ∙ ap (λ z. sign_number (sign z)) (holds_ca
 -- `found` is the number of the coefficient's sign
 found-is :
     (c : After-sign_of-found)
-    → 
+    →
     let columns = facet_columns c.args.n c.args.cells.now c.args.out in
     let i = c.vertices.i in
     c.sign_of-found.result ≡ sign_number (sign (coefficient c.args.n columns i c.loop-j.j))
@@ -92,17 +92,17 @@ vertices-preserved c =
     let loop = c.loop-j in
     let side = side_is (goal.at.vertices-preserved c).After-sign_of-side in
     elim c.loop-j-test.branch [
-      else-loop-j-test w ↦ absurd (true≢false (sym c.if-not-with.false ∙ w.with-is ∙ loop.invariant.0))
+      | else-loop-j-test w ↦ absurd (true≢false (sym c.if-not-with.false ∙ w.with-is ∙ loop.invariant.0))
       | then-loop-j-test+then-found-ne0+else-found-side w ↦
-        let found = w.sign_of-found.ensures ∙ ap (λ z. sign_number (sign z)) (holds_call w.coefficient.ensures (lit≤ tt)).is in (
-          c.if-not-with.false,
-          (
-            omega arith,
-            vertices.invariant.1.1
-                ∙ vertex_with _ _ vertices.i loop.j c.vertices-test.true (omega (arith, w.loop-j-test.true)) loop.invariant.1.1
-                (λ h. w.if-found-ne0.true (found ∙ h)) (sym found ∙ w.if-found-side.false ∙ side),
-          ),
-        )
+          let found = w.sign_of-found.ensures ∙ ap (λ z. sign_number (sign z)) (holds_call w.coefficient.ensures (lit≤ tt)).is in (
+            c.if-not-with.false,
+            (
+              omega arith,
+              vertices.invariant.1.1
+                  ∙ vertex_with _ _ vertices.i loop.j c.vertices-test.true (omega (arith, w.loop-j-test.true)) loop.invariant.1.1
+                  (λ h. w.if-found-ne0.true (found ∙ h)) (sym found ∙ w.if-found-side.false ∙ side),
+            ),
+          )
     ]
 
 pub returns-after-vertices : goal.returns-after-vertices
@@ -127,11 +127,11 @@ returns-then-not-with c =
     let vertices = c.vertices in
     let loop = c.loop-j in
     elim c.loop-j-test.branch [
-      else-loop-j-test w ↦
-        w.with-is ∙ loop.invariant.0
-        ∙ sym
-        (vertices.invariant.1.1
-        ∙ vertex_without _ _ vertices.i loop.j c.vertices-test.true w.loop-j-test.false loop.invariant.1.1
-        (λ h. c.if-side-eq0.false (side_is (goal.at.returns-then-not-with c).After-sign_of-side ∙ h)))
+      | else-loop-j-test w ↦
+          w.with-is ∙ loop.invariant.0
+          ∙ sym
+          (vertices.invariant.1.1
+          ∙ vertex_without _ _ vertices.i loop.j c.vertices-test.true w.loop-j-test.false loop.invariant.1.1
+          (λ h. c.if-side-eq0.false (side_is (goal.at.returns-then-not-with c).After-sign_of-side ∙ h)))
       | then-loop-j-test+then-found-ne0+else-found-side w ↦ absurd (true≢false (sym w.with-is ∙ c.if-not-with.true))
     ]

@@ -7,11 +7,10 @@ use Rattle.neighbour.proofs.neighbour.Goals as goal
 use Rattle.neighbour.proofs.neighbour.Goals.{After-order_beyond}
 
 pub order_beyond-requires : goal.order_beyond-requires
-order_beyond-requires c =
-    (
-      c.requires.0.axes,
-      (rw c.order.ensures (word_under_lem c.args.n c.args.row c.args.e c.requires.0 c.requires.1), c.requires.1),
-    )
+order_beyond-requires c = (
+  c.requires.0.axes,
+  (rw c.order.ensures (word_under_lem c.args.n c.args.row c.args.e c.requires.0 c.requires.1), c.requires.1),
+)
 
 -- the digits that are searched for
 digits :
@@ -21,11 +20,10 @@ digits c =
     c.order_beyond.ensures ∙ ap (λ w. order_beyond c.args.n w c.args.e) c.order.ensures
 
 pub find_row-requires : goal.find_row-requires
-find_row-requires c =
-    (
-      c.requires.0.axes,
-      rw (digits (goal.at.find_row-requires c).After-order_beyond) (first_under c.args.n c.args.row c.args.e c.requires.0 c.requires.1),
-    )
+find_row-requires c = (
+  c.requires.0.axes,
+  rw (digits (goal.at.find_row-requires c).After-order_beyond) (first_under c.args.n c.args.row c.args.e c.requires.0 c.requires.1),
+)
 
 pub returns : goal.returns
 returns c =

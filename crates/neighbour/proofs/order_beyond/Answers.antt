@@ -21,7 +21,7 @@ returns-then-e-eq0 c =
 -- the last axis at its place
 last-at :
     (c : Then-e-n)
-    → 
+    →
     Shifted (c.args.order / 2 ^ (16 - 4 * c.args.n) % 16) (16 - 4 * c.args.n)
 last-at c =
     shifted (c.args.order / 2 ^ (16 - 4 * c.args.n) % 16) (16 - 4 * c.args.n) (omega arith)
@@ -41,14 +41,14 @@ returns-then-e-n c =
 -- what is added for the later of the two axes, and what is taken off for the earlier
 gained :
     (c : Else-e-n)
-    → 
+    →
     Shifted (c.args.order / 2 ^ (12 - 4 * c.args.e) % 16 * 15) (12 - 4 * c.args.e)
 gained c =
     shifted (c.args.order / 2 ^ (12 - 4 * c.args.e) % 16 * 15) (12 - 4 * c.args.e) (omega arith) (omega arith)
 
 lost :
     (c : Else-e-n)
-    → 
+    →
     Shifted (c.args.order / 2 ^ (12 - 4 * c.args.e + 4) % 16 * 15) (12 - 4 * c.args.e)
 lost c =
     shifted (c.args.order / 2 ^ (12 - 4 * c.args.e + 4) % 16 * 15) (12 - 4 * c.args.e) (omega arith) (omega arith)

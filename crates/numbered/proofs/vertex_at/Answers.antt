@@ -33,6 +33,6 @@ steps_up-w-requires c =
 pub returns : goal.returns
 returns c =
     let both =
-        vertex_numbered c.args.f c.args.i c.requires.0.near c.steps_up-x.ensures c.steps_up-y.ensures
-        c.steps_up-z.ensures c.steps_up-w.ensures in
+    vertex_numbered c.args.f c.args.i c.requires.0.near c.steps_up-x.ensures c.steps_up-y.ensures
+    c.steps_up-z.ensures c.steps_up-w.ensures in
     record { vertex_size = both.0; by_index = both.1 }

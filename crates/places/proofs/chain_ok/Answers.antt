@@ -16,7 +16,7 @@ low c = rw (limit_is c.args.n c.requires.0) at c.if-limit-m.false
 
 -- and holds the one before
 held : (c : Else-not-holds)
-    → 
+    →
     holds c.args.n c.byte-m.result c.loop-k.before ≡ true
 held c = test_passed (c.holds.ensures _ c.loop-k.invariant.0) c.if-not-holds.false-raw
 
@@ -66,12 +66,11 @@ pub loop-k-smaller : goal.loop-k-smaller
 loop-k-smaller c = omega arith
 
 pub loop-k-preserved : goal.loop-k-preserved
-loop-k-preserved c =
-    (
-      low (goal.at.loop-k-preserved c).Else-limit-m,
-      chain_next _ _ _ _ _ c.loop-k.invariant.1 c.byte-m.ensures.is
-          c.loop-k-test.true (low (goal.at.loop-k-preserved c).Else-limit-m) (held (goal.at.loop-k-preserved c).Else-not-holds) c.if-m-before.false,
-    )
+loop-k-preserved c = (
+  low (goal.at.loop-k-preserved c).Else-limit-m,
+  chain_next _ _ _ _ _ c.loop-k.invariant.1 c.byte-m.ensures.is
+      c.loop-k-test.true (low (goal.at.loop-k-preserved c).Else-limit-m) (held (goal.at.loop-k-preserved c).Else-not-holds) c.if-m-before.false,
+)
 
 pub returns : goal.returns
 returns c = chain_ends _ _ _ _ _ c.loop-k.invariant.1 c.loop-k-test.false

@@ -19,7 +19,7 @@ factor-fourth-requires c = record { polynomial = c.requires.polynomial; powers_o
 
 all :
     (c : After-factor-fourth)
-    → 
+    →
     let given = c.args in
     Product (monomial given.body.now given.i 0 (tabled given.n given.px.now given.py.now given.pz.now given.pw.now))
     c.factor-first.result c.factor-second.result c.factor-third.result c.factor-fourth.result

@@ -19,8 +19,11 @@ powers-pw-requires c = λ l. back_size (c.requires.polynomial.1.w l) coordinate_
 
 pub sum_of_last-requires : goal.sum_of_last-requires
 sum_of_last-requires c =
-    record { polynomial = (c.requires.polynomial.0, c.requires.terms_bound); tables = tables c.requires.polynomial.0.axes c.requires.polynomial.1
-          c.powers-px.ensures c.powers-py.ensures c.powers-pz.ensures c.powers-pw.ensures }
+    record {
+      polynomial = (c.requires.polynomial.0, c.requires.terms_bound);
+      tables = tables c.requires.polynomial.0.axes c.requires.polynomial.1
+          c.powers-px.ensures c.powers-py.ensures c.powers-pz.ensures c.powers-pw.ensures;
+    }
 
 pub returns : goal.returns
 returns c =

@@ -12,7 +12,7 @@ use Rattle.terms.proofs.least_after.Goals.{After-exponent-w}
 
 -- the numbers read are the term's exponents
 read : (c : After-exponent-w)
-    → 
+    →
     HasExponents c.args.b.now c.args.i c.exponent-x.result c.exponent-y.result c.exponent-z.result c.exponent-w.result
 read c =
     record {

@@ -36,7 +36,7 @@ loop-i-smaller c = omega arith
 
 -- something is carried on from the term
 more : (c : Else-least-eq0)
-    → 
+    →
     carried_on c.args.n c.args.b.now c.loop-i.i ≢ 0
 more c h = c.if-least-eq0.false (c.least_after-least.ensures ∙ h)
 

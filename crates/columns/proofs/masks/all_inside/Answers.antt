@@ -1,13 +1,10 @@
 -- `columns::masks::all_inside` meets its contract. The loop's invariant: the vertices under k lie in the box.
-use mathlib.Core.Path.{◌≡◌, sym}
-use mathlib.Core.Bool.{true}
-use Prim.Native.Nat.{ℕ, ◌≤◌, ◌<◌, ◌-◌}
+use mathlib.Core.Path.{sym}
 use native.Mathlib.Omega.{arith}
 use borrow.Author.Count.{below_none, below_more}
 use borrow.Author.Tests.{not-true, not-false}
-use Rattle.paper.specs.Values.{field_of}
 use Rattle.paper.proofs.Tests.{every_all}
-use Rattle.columns.specs.Vertices.{vertex_at, vertex_list}
+use Rattle.columns.specs.Vertices.{vertex_list}
 use Rattle.field.proofs.Counted.{every_fails}
 use Rattle.columns.proofs.PutColumns.{at_vertex}
 use Rattle.columns.proofs.masks.all_inside.Goals as goal

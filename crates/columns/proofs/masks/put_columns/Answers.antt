@@ -1,12 +1,11 @@
 -- `columns::masks::put_columns` meets its contract. The loop's invariant: the columns under k are in, and every cell is within the limit.
 use mathlib.Core.Path.{ap, ◌∙◌}
-use Prim.Native.Nat.{◌≤◌, ◌-◌}
 use native.Mathlib.Omega.{arith}
 use borrow.Author.Tests.{not-true, not-false}
 use Rattle.paper.specs.Values.{field_of}
-use Rattle.columns.specs.Vertices.{vertex_at, vertex_list}
+use Rattle.columns.specs.Vertices.{vertex_list}
 use Rattle.field.proofs.Counted.{every_at}
-use Rattle.columns.proofs.PutColumns.{Filling, filling_none, filling_next, filling_fails, filling_all, put_vertex}
+use Rattle.columns.proofs.PutColumns.{filling_none, filling_next, filling_fails, filling_all, put_vertex}
 use Rattle.columns.proofs.masks.put_columns.Goals as goal
 
 pub loop-k-init : goal.loop-k-init
@@ -17,11 +16,14 @@ vertex_at-requires c = c.requires.job_of.1.0
 
 pub put_values-requires : goal.put_values-requires
 unfolding vertex_list
-put_values-requires c = record { job_of = (
+put_values-requires c = record {
+  job_of = (
     c.requires.job_of.0,
     ap (field_of c.args.job.now).in_box (c.vertex_at.ensures _)
         ∙ every_at _ _ _ c.loop-k.k c.requires.count_bound.1 c.loop-k-test.true,
-  ); i_bound = (omega (arith, c.requires.count_bound.0, c.loop-k-test.true), c.loop-k.invariant.1.cells) }
+  );
+  i_bound = (omega (arith, c.requires.count_bound.0, c.loop-k-test.true), c.loop-k.invariant.1.cells);
+}
 
 pub returns-then-not-put_values : goal.returns-then-not-put_values
 unfolding vertex_list

@@ -1,12 +1,7 @@
 -- `columns::masks::put_columns` meets its contract. The loop's invariant: the columns under k are in, and every cell is within the limit.
-use mathlib.Core.Path.{ap, ◌∙◌}
 use Prim.Native.Nat.{◌≤◌, ◌-◌}
-use native.Mathlib.Omega.{arith}
-use borrow.Author.Tests.{not-true, not-false}
-use Rattle.paper.specs.Values.{field_of}
-use Rattle.columns.specs.Vertices.{vertex_at, vertex_list}
-use Rattle.field.proofs.Counted.{every_at}
-use Rattle.columns.proofs.PutColumns.{Filling, filling_none, filling_next, filling_fails, filling_all, put_vertex}
+use Rattle.columns.specs.Vertices.{vertex_at}
+use Rattle.columns.proofs.PutColumns.{Filling}
 use Rattle.columns.proofs.masks.put_columns.Given as goal
 
 abbrev pub invariant-loop-k : goal.invariant-loop-k

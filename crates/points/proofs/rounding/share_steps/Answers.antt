@@ -34,7 +34,7 @@ loop-k-preserved c =
     let den = c.args.den in
     let loop = c.loop-k in
     elim c.if-den-rest.branch [
-      then-den-rest w ↦ (
+      | then-den-rest w ↦ (
         omega arith,
         subst (λ q. Doubled (loop.k + 1) num den q c.if-den-rest.rest) (sym (w.steps-is ∙ omega arith))
             (subst (λ r. Doubled (loop.k + 1) num den (2 * loop.steps + 1) r) (sym w.rest-is)

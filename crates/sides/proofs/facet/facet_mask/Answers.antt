@@ -18,7 +18,7 @@ returns-then-n-i c =
 -- the two results
 first-is :
     (c : After-digit)
-    → 
+    →
     c.digit.result ≡ vertex_mask (order_at c.args.n c.args.row) (skip c.args.out c.args.i)
 first-is c =
     c.digit.ensures ∙ c.vertex_masks-masks.ensures.at c.skip.result (search rules)
@@ -26,7 +26,7 @@ first-is c =
 
 low_is :
     (c : After-digit-2)
-    → 
+    →
     c.digit-2.result ≡ vertex_mask (order_at c.args.n c.args.row) (skip c.args.out 0)
 low_is c =
     c.digit-2.ensures ∙ c.vertex_masks-masks.ensures.at c.skip-2.result (search rules)

@@ -39,7 +39,7 @@ overflow_add-below c = omega (arith, c.digit-below.ensures, c.digit-above.ensure
 -- the side of a facet that leaves out a vertex between the first and the last
 between :
     (c : After-digit-above) (row : ℕ)
-    → 
+    →
     let below = c.digit-below.result in
     let at = c.digit-at.result in
     InTable c.args.n row → MasksAre c.args.n row c.args.masks

@@ -19,7 +19,7 @@ first-same c = test_passed c.same_mask.ensures c.if-not-same_mask.false-raw
 
 second-same :
     (c : Else-not-same_mask-2)
-    → 
+    →
     same_mask c.args.n c.args.row c.args.out 2 c.args.p.mask2 ≡ true
 second-same c = test_passed c.same_mask-2.ensures c.if-not-same_mask-2.false-raw
 
