@@ -8,7 +8,7 @@ use lib.IntN.{ℤ}
 use Rattle.exact.specs.Crossed.{crossed}
 use Rattle.curves.specs.Grid.{facet_vertices}
 use Rattle.curves.specs.Step.{crossed_facet, columns}
-use Rattle.paper.specs.Job.{dimension, refuse_if}
+use Rattle.paper.specs.Job.{refuse_if}
 use Rattle.paper.specs.Values.{field_of}
 use Rattle.paper.specs.Operations.{facet_of, crossed_in, judge_refusal, point_refusal}
 use Rattle.paper.proofs.Refusals.{refuse_here, refuse_later, first_refuses, first_passes}
