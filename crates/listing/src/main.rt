@@ -5,10 +5,11 @@
 
 mod lines;
 
-ghost use Rattle.std.specs.Prelude.{◌≡◌, length};
+ghost use Rattle.std.specs.Prelude.{◌≡◌, ◌≤◌, IfOk, length};
 ghost use Rattle.listing.specs.Room.{job_room, places_room, text_room};
 
-use libc::{STDIN_FILENO, STDOUT_FILENO};
+use std::io;
+use std::io::{Read, Write};
 
 // Room for the longest job and one byte more, so that a longer one is seen.
 fn job_space() -> [u8; 2049]
@@ -31,11 +32,26 @@ fn text_space() -> [u8; 978992]
     [0; 978992]
 }
 
-fn main() {
+// Reads until the bytes are full or the input ends, and answers how many were read.
+fn read_full<R: Read>(input: &mut R, bytes: &mut [u8]) -> io::Result<usize>
+    ensures { IfOk result (λ n. n ≤ length bytes.new) }
+{
+    let mut done = 0;
+    while done < bytes.len() {
+        let n = input.read(&mut bytes[done..])?;
+        if n == 0 {
+            break;
+        }
+        done += n;
+    }
+    Ok(done)
+}
+
+fn main(rt: HostRuntime) -> io::Result<()> {
     let mut input = job_space();
-    let got = io::read_full(STDIN_FILENO, &mut input);
+    let got = read_full(&mut rt.stdin(), &mut input)?;
     let mut places = place_space();
     let mut out = text_space();
     let end = lines::put_listing(&input[..got], &mut places, &mut out);
-    io::write_all(STDOUT_FILENO, &out[..end]);
+    rt.stdout().write_all(&out[..end])
 }

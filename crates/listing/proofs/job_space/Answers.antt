@@ -1,11 +1,7 @@
 -- `listing::job_space` meets its contract: so many zeros are the room for the longest job and one byte more.
 use mathlib.Core.Path.{◌∙◌}
 use Rattle.listing.proofs.RoomSizes.{job_room_lem, zeros_long}
-use Rattle.listing.proofs.job_space.Statement.{statement}
-use Rattle.listing.proofs.job_space.Tie as tie
+use Rattle.listing.proofs.job_space.Goals as goal
 
-returns : tie.Need-returns
+pub returns : goal.returns
 returns c = job_room_lem ∙ zeros_long 2049
-
-pub job-space-spec : {M : Type 1} → statement M
-job-space-spec = tie.close (tie.spec returns)
