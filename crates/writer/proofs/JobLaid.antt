@@ -1,7 +1,7 @@
 -- A job is its contents with its bodies behind them: there is room for the bodies once the contents are laid, and both are laid as one.
 use Prim.Native.Nat.{ℕ, ◌+◌, ◌≤◌}
 use native.Mathlib.Omega.{arith}
-use mathlib.Core.Path.{refl}
+use mathlib.Core.Path.{◌≡◌, refl}
 use mathlib.Core.List.{List}
 use lib.ListN.{length, length-append}
 use lib.Seq.{sets, length-sets}
@@ -20,3 +20,7 @@ unfolding job_from
 job_laid n bias f b c r behind =
     let first : Laid b 0 (contents_of n bias f) (sets b 0 (contents_of n bias f)) (0 + length (contents_of n bias f)) = record { position = refl; buffer = refl } in
     laid_behind first behind
+
+-- a list by another name
+pub laid_in : {b c d us : List ℕ} {at r : ℕ} → d ≡ c → Laid b at us c r → Laid b at us d r
+laid_in {b} {c} {d} {us} {at} {r} e p = rw e p

@@ -1,5 +1,2 @@
--- What the proofs by hand share.
-pub mod Again
-pub mod Bodies
-pub mod Held
+-- Laws of a job laid as contents and bodies.
 pub mod JobLaid

@@ -1,5 +1,5 @@
-// A writer over the caller's buffer and its position: it lays contents first and bodies behind them. Each function that takes, makes or hands back
-// one is proved by a walk of its MIR, by hand; the covered functions of `laying` do the work. `lay` has plain parameters and serves every other caller.
+// A writer over the caller's buffer and its position: it lays contents first and bodies behind them. The functions of `laying` do the work. `lay` has
+// plain parameters and serves every other caller.
 
 #![tactic(auto)]
 
@@ -14,17 +14,28 @@ pub struct Writer<'a> {
     pub at: usize,
 }
 
+// The contents of a job, laid at the position of a writer that is lent.
+fn add_contents<'a, 'b>(w: &mut Writer<'a>, n: usize, bias: u8, bodies: [&'b [u8]; 5])
+    requires { (n ≤ 4) × (w.old.at + length (job_from n bias (body_at bodies)) ≤ length w.old.buffer.now) }
+    ensures same_reference { w.new.buffer.ghost_name ≡ w.old.buffer.ghost_name }
+    ensures advanced { w.new ≡ advanced w.old (contents_of n bias (body_at bodies.entry)) }
+{
+    let at = w.at;
+    w.at = laying::lay_contents(&mut *w.buffer, at, n, bias, bodies);
+}
+
 // The contents of a job, laid at the writer's position.
-pub fn put_contents<'a, 'b>(w: Writer<'a>, n: usize, bias: u8, bodies: [&'b [u8]; 5]) -> Writer<'a>
+pub fn put_contents<'a, 'b>(
+    mut w: Writer<'a>,
+    n: usize,
+    bias: u8,
+    bodies: [&'b [u8]; 5],
+) -> Writer<'a>
     requires { (n ≤ 4) × (w.at + length (job_from n bias (body_at bodies)) ≤ length w.buffer.now) }
     ensures { result ≡ advanced w.entry (contents_of n bias (body_at bodies.entry)) }
 {
-    let at = w.at;
-    let next = laying::lay_contents(&mut *w.buffer, at, n, bias, bodies);
-    Writer {
-        buffer: w.buffer,
-        at: next,
-    }
+    add_contents(&mut w, n, bias, bodies);
+    w
 }
 
 // The bodies of a job, laid at the writer's position, and the position behind them.
@@ -41,14 +52,10 @@ pub fn lay<'b>(buffer: &mut [u8], n: usize, bias: u8, bodies: [&'b [u8]; 5]) -> 
     requires { (n ≤ 4) × (length (job_from n bias (body_at bodies)) ≤ length buffer.old) }
     ensures { Laid buffer.old 0 (job_from n bias (body_at bodies.entry)) buffer.new result }
 {
-    let w = put_contents(
-        Writer {
-            buffer: buffer,
-            at: 0,
-        },
-        n,
-        bias,
-        bodies,
-    );
+    let mut w = Writer {
+        buffer: buffer,
+        at: 0,
+    };
+    add_contents(&mut w, n, bias, bodies);
     put_bodies(w, n, bodies)
 }
