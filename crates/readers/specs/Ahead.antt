@@ -1,6 +1,6 @@
 -- What a reader is asked and what it answers: in the words of the machine that reads one byte a step (`run` of the crate formula), so that what one
 -- reader has read is one state of it. A text is read in dimension n, from byte `at` on, at a depth of open parentheses.
-use Rattle.std.specs.Prelude.{ℕ, ◌-◌, ◌^◌, ◌≤◌, ◌<◌, ◌≡◌, Bool, true, false, cond, ◌&&◌, List, [], length, drop, get_or, eqb, leb}
+use Rattle.std.specs.Prelude.{ℕ, ◌-◌, ◌^◌, ◌≤◌, ◌<◌, ◌≡◌, Bool, true, false, cond, ◌&&◌, List, length, drop, get_or, eqb, leb}
 use Rattle.std.proofs.Math.Option.{Option}
 use Rattle.formula.specs.Grammar.{Formula, number}
 use Rattle.formula.specs.Polynomial.{Polynomial, zero_polynomial, difference_of}

@@ -1,6 +1,5 @@
 -- `chains::count` meets its contract.
-use mathlib.Core.Path.{refl, sym, ap, ◌∙◌}
-use native.Mathlib.Omega.{arith}
+use mathlib.Core.Path.{sym, ap, ◌∙◌}
 use Rattle.chains.proofs.ChainTable.{chain_count, chains_counted, four_left}
 use Rattle.chains.proofs.count.Goals as goal
 

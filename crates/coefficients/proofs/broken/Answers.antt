@@ -1,5 +1,4 @@
 -- `coefficients::broken` meets its contract.
-use borrow.Author.Rules.{rules}
 use Rattle.coefficients.proofs.Results.{result_broken}
 use Rattle.coefficients.proofs.broken.Goals as goal
 

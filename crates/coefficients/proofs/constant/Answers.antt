@@ -1,6 +1,5 @@
 -- `coefficients::constant` meets its contract: the number is coefficient 0 (`number_put`).
 use mathlib.Core.Path.{◌∙◌}
-use borrow.Author.Rules.{rules}
 use Rattle.formula.specs.Meaning.{on_result}
 use Rattle.coefficients.specs.Result.{result_as}
 use Rattle.coefficients.proofs.CellsPut.{number_bounded, number_put}

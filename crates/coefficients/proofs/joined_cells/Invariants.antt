@@ -1,10 +1,6 @@
 -- `coefficients::joined_cells` meets its contract. The loop's invariant: the coefficients before coefficient k are joined (`JoinedTo`).
 use Prim.Native.Nat.{◌-◌}
-use native.Mathlib.Omega.{arith}
-use borrow.Author.Rules.{rules}
-use Rattle.formula.specs.Polynomial.{cell}
-use Rattle.rows.proofs.CoefficientBits.{coefficient_held}
-use Rattle.coefficients.proofs.SumOrDifference.{JoinedTo, joined_starts, joined_next, joined_ends}
+use Rattle.coefficients.proofs.SumOrDifference.{JoinedTo}
 use Rattle.coefficients.proofs.joined_cells.Given as goal
 
 abbrev pub invariant-loop-k : goal.invariant-loop-k

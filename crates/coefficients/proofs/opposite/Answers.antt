@@ -1,7 +1,6 @@
 -- `coefficients::opposite` meets its contract: it is the difference from 0.
 use mathlib.Core.Path.{ap, ◌∙◌}
 use mathlib.Core.Bool.{true}
-use borrow.Author.Rules.{rules}
 use Rattle.paper.specs.Limits.{coefficient_limit}
 use Rattle.formula.specs.Polynomial.{zero_polynomial, within, cellwise, difference_of}
 use Rattle.formula.specs.Meaning.{on_result}

@@ -1,13 +1,10 @@
 -- `coefficients::power` meets its contract. The loop's invariant: r is the power j. What the call in the loop needs and ensures is not named here, so
 -- that another call is refused for what it says.
 use Prim.Native.Nat.{◌-◌, ◌≤◌}
-use mathlib.Core.Path.{◌≡◌, ap, ◌∙◌}
-use native.Mathlib.Omega.{arith}
-use borrow.Author.Rules.{rules}
+use mathlib.Core.Path.{◌≡◌}
 use Rattle.formula.specs.Meaning.{power_of}
 use Rattle.formula.specs.Polynomial.{Kept}
 use Rattle.coefficients.specs.Result.{result_as}
-use Rattle.coefficients.proofs.Results.{same_missing, on_there, power_starts, power_next}
 use Rattle.coefficients.proofs.power.Given as goal
 
 abbrev pub invariant-loop-j : goal.invariant-loop-j

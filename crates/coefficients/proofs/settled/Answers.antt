@@ -1,5 +1,4 @@
 -- `coefficients::settled` meets its contract.
-use borrow.Author.Rules.{rules}
 use Rattle.formula.specs.Polynomial.{within}
 use Rattle.coefficients.proofs.Results.{on_missing, result_within, result_outside}
 use Rattle.coefficients.proofs.settled.Goals as goal

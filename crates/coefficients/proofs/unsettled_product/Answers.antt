@@ -1,5 +1,4 @@
 -- `coefficients::unsettled_product` meets its contract.
-use borrow.Author.Rules.{rules}
 use Rattle.coefficients.specs.Result.{parts_bound, unsettled_product}
 use Rattle.coefficients.proofs.Limits.{kept_bounded, kept_part}
 use Rattle.coefficients.proofs.Results.{first_missing, second_missing, both_there, product_outside, product_inside}

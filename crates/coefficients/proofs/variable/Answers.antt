@@ -1,7 +1,6 @@
 -- `coefficients::variable` meets its contract: the letter's coefficient is 1 (`letter_put`).
 use mathlib.Core.Path.{◌∙◌}
 use native.Mathlib.Omega.{arith}
-use borrow.Author.Rules.{rules}
 use Rattle.formula.specs.Meaning.{on_result}
 use Rattle.coefficients.specs.Result.{result_as}
 use Rattle.coefficients.proofs.CellsPut.{letter_bounded, letter_put}

@@ -1,10 +1,6 @@
 -- `coefficients::within` meets its contract. The loop's invariant: the coefficients from coefficient k on decide.
-use Prim.Native.Nat.{◌-◌, ◌≤◌}
-use mathlib.Core.Path.{◌≡◌, refl}
+use mathlib.Core.Path.{refl}
 use native.Mathlib.Omega.{arith}
-use borrow.Author.Rules.{rules}
-use lib.ListN.{drop}
-use Rattle.formula.specs.Polynomial.{coefficients_within}
 use Rattle.coefficients.proofs.Limits.{within_next, within_stops, within_ends}
 use Rattle.coefficients.proofs.within.Goals as goal
 

@@ -3,7 +3,6 @@ use mathlib.Core.Path.{sym, ap}
 use Rattle.grounds.specs.declared.JudgedBy.{JudgedBy}
 use Rattle.grounds.specs.Judged.{judged_by_as}
 use Rattle.judgenumbers.specs.Numbers.{ground_numbers}
-use borrow.Author.Rules.{rules}
 use Rattle.judgenumbers.proofs.ground_numbers.Goals as goal
 
 pub returns-in-Refused : goal.returns-in-Refused

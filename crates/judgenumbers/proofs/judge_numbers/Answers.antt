@@ -3,7 +3,6 @@ use mathlib.Core.Path.{sym, ap}
 use Rattle.paper.specs.declared.Judged.{Judged}
 use Rattle.paper.specs.Answers.{judged_as}
 use Rattle.judgenumbers.specs.Numbers.{judge_numbers}
-use borrow.Author.Rules.{rules}
 use Rattle.judgenumbers.proofs.judge_numbers.Goals as goal
 
 pub returns-in-Refused : goal.returns-in-Refused

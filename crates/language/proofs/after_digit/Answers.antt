@@ -1,6 +1,5 @@
 -- `language::after_digit` meets its contract: its tests are those of the definition.
 use native.Mathlib.Omega.{arith}
-use borrow.Author.Rules.{rules}
 use Rattle.language.proofs.DigitLaws.{exponent_read, number_begins, no_number, number_goes_on, number_full}
 use Rattle.language.proofs.after_digit.Goals as goal
 

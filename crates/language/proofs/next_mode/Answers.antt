@@ -1,6 +1,5 @@
 -- `language::next_mode` meets its contract: what the byte is, and whether it may stand at this mode.
 use native.Mathlib.Omega.{arith}
-use borrow.Author.Rules.{rules}
 use Rattle.language.proofs.ModeLaws.{digit_least, mode_digit, mode_letter, mode_opening, mode_too_deep, mode_closing, mode_star, mode_plus}
 use Rattle.language.proofs.ModeLaws.{mode_minus, mode_caret, mode_nowhere}
 use Rattle.language.proofs.next_mode.Goals as goal

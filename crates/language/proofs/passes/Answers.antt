@@ -1,11 +1,8 @@
 -- `language::passes` meets its contract. The invariant: from the mode and the depth that the code has, the pass over the bytes that are left answers
 -- as the reader does on the whole text.
-use Prim.Native.Nat.{◌-◌}
 use native.Mathlib.Omega.{arith}
-use borrow.Author.Rules.{rules}
-use lib.ListN.{length}
 use Rattle.language.specs.Pass.{sum_next, power_read}
-use Rattle.language.proofs.PassLaws.{PassedTo, pass_starts, pass_next, pass_ends}
+use Rattle.language.proofs.PassLaws.{pass_starts, pass_next, pass_ends}
 use Rattle.language.proofs.passes.Goals as goal
 
 pub loop-i-init : goal.loop-i-init

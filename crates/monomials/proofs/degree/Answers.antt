@@ -1,5 +1,4 @@
 -- `monomials::degree` meets its contract: the degree is the sum of the code's digits (`digits_degree`).
-use borrow.Author.Rules.{rules}
 use Rattle.monomials.proofs.Codes.{digits_degree}
 use Rattle.monomials.proofs.degree.Goals as goal
 

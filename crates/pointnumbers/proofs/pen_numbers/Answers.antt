@@ -4,7 +4,6 @@ use Rattle.paper.specs.declared.Penned.{Penned}
 use Rattle.paper.specs.Pen.{millimetres_as, move_as, penned_as}
 use Rattle.pointnumbers.specs.Numbers.{with_point, pen_numbers}
 use Rattle.pointnumbers.proofs.Answers.{pen_moved}
-use borrow.Author.Rules.{rules}
 use Rattle.pointnumbers.proofs.pen_numbers.Goals as goal
 
 pub returns-in-Refused : goal.returns-in-Refused

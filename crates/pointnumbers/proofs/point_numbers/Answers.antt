@@ -17,8 +17,8 @@ pub returns-in-At : goal.returns-in-At
 unfolding pointed_as
 returns-in-At c =
     point_at
-    (to_z-of_z w64 _ ((search rules)))
-    (to_z-of_z w64 _ ((search rules)))
-    (to_z-of_z w64 _ ((search rules)))
-    (to_z-of_z w64 _ ((search rules)))
+    (to_z-of_z w64 _ (search rules))
+    (to_z-of_z w64 _ (search rules))
+    (to_z-of_z w64 _ (search rules))
+    (to_z-of_z w64 _ (search rules))
     ∙ ap (λ (a : Pointed). point_numbers (pointed_as a)) (sym c.in-At.is)

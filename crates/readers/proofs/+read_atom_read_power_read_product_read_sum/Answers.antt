@@ -1,11 +1,10 @@
 -- The four readers meet their contracts, by one induction: the remaining text falls, and within one byte sum, product, power and atom stand in this order.
 use mathlib.Core.Path.{sym, ap, ◌∙◌}
 use native.Mathlib.Omega.{arith}
-use borrow.Author.Rules.{rules}
 use Rattle.formula.specs.Polynomial.{variable_polynomial}
 use Rattle.formula.proofs.Letters.{axis_under_four}
 use Rattle.readers.proofs.Machine.{byte_is_inside}
-use Rattle.readers.proofs.Steps.{atom_inside, open_under, sum_opens, parens_inside, parens_read, letter_read, number_atom, power_plain, exponent_here, power_raised, product_begins, product_first, product_next, product_longer, product_ends, sum_inside, sign_behind, sum_begins, sum_first, sign_inside, sum_next_lem, sum_longer, sum_ends}
+use Rattle.readers.proofs.Steps.{atom_inside, open_under, sum_opens, parens_read, letter_read, number_atom, power_plain, exponent_here, power_raised, product_begins, product_first, product_next, product_longer, product_ends, sum_inside, sign_behind, sum_begins, sum_first, sign_inside, sum_next_lem, sum_longer, sum_ends}
 use Rattle.readers.proofs.+read_atom_read_power_read_product_read_sum.Goals as goal
 
 pub read_atom-overflow_add-at : goal.read_atom-overflow_add-at

@@ -1,4 +1,3 @@
-use borrow.Author.Rules.{rules}
 use Rattle.readers.proofs.behind_sign.Goals as goal
 
 pub returns-then-minus : goal.returns-then-minus

@@ -1,6 +1,5 @@
 use mathlib.Core.Path.{refl}
 use native.Mathlib.Omega.{arith}
-use borrow.Author.Rules.{rules}
 use Rattle.readers.specs.Ahead.{is_digit}
 use Rattle.readers.proofs.Machine.{byte_past}
 use Rattle.readers.proofs.is_digit.Goals as goal

@@ -1,4 +1,3 @@
-use borrow.Author.Rules.{rules}
 use Rattle.readers.proofs.is_sign.Goals as goal
 
 pub returns : goal.returns

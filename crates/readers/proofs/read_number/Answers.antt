@@ -1,11 +1,8 @@
 use mathlib.Core.Path.{◌≡◌, sym, ◌∙◌}
 use mathlib.Core.Bool.{true}
-use Prim.Native.Nat.{◌-◌}
 use native.Mathlib.Omega.{arith}
-use lib.ListN.{length}
-use borrow.Author.Rules.{rules}
-use Rattle.readers.specs.Ahead.{is_digit, NumberSoFar}
-use Rattle.readers.proofs.Steps.{DigitHere, digit_here, number_first, number_longer, number_small, number_ends}
+use Rattle.readers.specs.Ahead.{is_digit}
+use Rattle.readers.proofs.Steps.{digit_here, number_first, number_longer, number_small, number_ends}
 use Rattle.readers.proofs.read_number.Goals as goal
 use Rattle.readers.proofs.read_number.Goals.{In-loop-value}
 

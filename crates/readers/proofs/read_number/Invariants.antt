@@ -1,11 +1,6 @@
-use mathlib.Core.Path.{◌≡◌, sym, ◌∙◌}
-use mathlib.Core.Bool.{true}
 use Prim.Native.Nat.{◌-◌}
-use native.Mathlib.Omega.{arith}
 use lib.ListN.{length}
-use borrow.Author.Rules.{rules}
-use Rattle.readers.specs.Ahead.{is_digit, NumberSoFar}
-use Rattle.readers.proofs.Steps.{DigitHere, digit_here, number_first, number_longer, number_small, number_ends}
+use Rattle.readers.specs.Ahead.{NumberSoFar}
 use Rattle.readers.proofs.read_number.Given as goal
 
 abbrev pub invariant-loop-value : goal.invariant-loop-value

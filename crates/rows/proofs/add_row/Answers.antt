@@ -1,12 +1,9 @@
 -- `rows::add_row` meets its contract. The loop's invariant: the first k terms of the row are added (`RowTo`).
-use Prim.Native.Nat.{◌-◌}
 use native.Mathlib.Omega.{arith}
-use mir.Syntax.{w64}
-use mir.Val.{to_z}
 use Rattle.formula.specs.Polynomial.{monomial_count, cell}
 use Rattle.rows.proofs.CoefficientBits.{coefficient_held}
 use Rattle.rows.proofs.Bounds.{bounded_more}
-use Rattle.rows.proofs.RowsAdded.{RowTo, row_starts, row_next, row_skipped, row_ends}
+use Rattle.rows.proofs.RowsAdded.{row_starts, row_next, row_skipped, row_ends}
 use Rattle.rows.proofs.add_row.Goals as goal
 
 pub returns-then-c-eq0 : goal.returns-then-c-eq0

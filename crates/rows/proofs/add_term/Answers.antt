@@ -1,5 +1,4 @@
 -- `rows::add_term` meets its contract. What the write needs is not named here, so that another number written is refused for what it is.
-use borrow.Author.Rules.{rules}
 use Rattle.rows.proofs.TermAdded.{term_none, product_fits, sum_fits, term_put, term_outside}
 use Rattle.rows.proofs.add_term.Goals as goal
 

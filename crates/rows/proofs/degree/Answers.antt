@@ -1,6 +1,5 @@
 -- `rows::degree` meets its contract. The loop's invariant: d is the degree of the terms before term k.
-use Prim.Native.Nat.{◌-◌, ◌≤◌}
-use mathlib.Core.Path.{◌≡◌, refl}
+use mathlib.Core.Path.{refl}
 use native.Mathlib.Omega.{arith}
 use Rattle.formula.specs.Polynomial.{monomial_count, cell}
 use Rattle.rows.specs.Degree.{degree_to}

@@ -1,11 +1,7 @@
 -- `rows::degree` meets its contract. The loop's invariant: d is the degree of the terms before term k.
 use Prim.Native.Nat.{◌-◌, ◌≤◌}
-use mathlib.Core.Path.{◌≡◌, refl}
-use native.Mathlib.Omega.{arith}
-use Rattle.formula.specs.Polynomial.{monomial_count, cell}
+use mathlib.Core.Path.{◌≡◌}
 use Rattle.rows.specs.Degree.{degree_to}
-use Rattle.rows.proofs.CoefficientBits.{coefficient_held}
-use Rattle.rows.proofs.DegreeFits.{degree_next, degree_ends}
 use Rattle.rows.proofs.degree.Given as goal
 
 abbrev pub invariant-loop-k : goal.invariant-loop-k

@@ -1,10 +1,8 @@
 -- `rows::multiplied` meets its contract. The loop's invariant: the first i rows are added (`RowsTo`).
-use Prim.Native.Nat.{◌-◌}
 use native.Mathlib.Omega.{arith}
-use borrow.Author.Rules.{rules}
 use Rattle.formula.specs.Polynomial.{monomial_count, cell}
 use Rattle.rows.proofs.CoefficientBits.{coefficient_held}
-use Rattle.rows.proofs.RowsAdded.{RowsTo, rows_start, rows_next, rows_end}
+use Rattle.rows.proofs.RowsAdded.{rows_start, rows_next, rows_end}
 use Rattle.rows.proofs.multiplied.Goals as goal
 
 pub loop-i-init : goal.loop-i-init

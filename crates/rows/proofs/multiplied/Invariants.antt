@@ -1,10 +1,6 @@
 -- `rows::multiplied` meets its contract. The loop's invariant: the first i rows are added (`RowsTo`).
 use Prim.Native.Nat.{◌-◌}
-use native.Mathlib.Omega.{arith}
-use borrow.Author.Rules.{rules}
-use Rattle.formula.specs.Polynomial.{monomial_count, cell}
-use Rattle.rows.proofs.CoefficientBits.{coefficient_held}
-use Rattle.rows.proofs.RowsAdded.{RowsTo, rows_start, rows_next, rows_end}
+use Rattle.rows.proofs.RowsAdded.{RowsTo}
 use Rattle.rows.proofs.multiplied.Given as goal
 
 abbrev pub invariant-loop-i : goal.invariant-loop-i

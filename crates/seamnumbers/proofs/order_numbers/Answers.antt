@@ -1,6 +1,5 @@
 -- `seamnumbers::order_numbers` meets its contract: each constructor has its numbers.
 use mathlib.Core.Path.{sym, ap}
-use borrow.Author.Rules.{rules}
 use Rattle.nesting.specs.declared.Ordered.{Ordered}
 use Rattle.nesting.specs.Answers.{ordered_as}
 use Rattle.seamnumbers.specs.Numbers.{order_numbers}

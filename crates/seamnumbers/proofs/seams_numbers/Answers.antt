@@ -3,7 +3,6 @@ use mathlib.Core.Path.{sym, ap}
 use Rattle.seamlist.specs.declared.Seamed.{Seamed}
 use Rattle.seamlist.specs.Answers.{seamed_as}
 use Rattle.seamnumbers.specs.Numbers.{extent_number, seams_numbers}
-use borrow.Author.Rules.{rules}
 use Rattle.seamnumbers.proofs.seams_numbers.Goals as goal
 
 pub returns-in-Refused : goal.returns-in-Refused

@@ -1,6 +1,5 @@
 -- `termbytes::double_word_of` meets its contract: under 0 what is missing to 4,294,967,296, from 0 on the number itself.
 use native.Mathlib.Omega.{arith}
-use borrow.Author.Rules.{rules}
 use Rattle.termbytes.proofs.DoubleWord.{word_size, word_below, word_above}
 use Rattle.termbytes.proofs.double_word_of.Goals as goal
 

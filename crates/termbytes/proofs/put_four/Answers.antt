@@ -3,7 +3,6 @@ use native.Mathlib.Omega.{arith}
 use native.Mathlib.Numerals.{unary_clauses}
 use mathlib.Core.Path.{refl}
 use lib.ListN.{length-set}
-use borrow.Author.Rules.{rules}
 use Rattle.termbytes.proofs.put_four.Goals as goal
 
 pub bounds-bytes-at-2 : goal.bounds-bytes-at-2

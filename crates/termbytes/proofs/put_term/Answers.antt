@@ -2,7 +2,6 @@
 use native.Mathlib.Omega.{arith}
 use Rattle.termbytes.proofs.DoubleWord.{back_coefficient}
 use Rattle.termbytes.proofs.OneTerm.{none_put, term_put}
-use borrow.Author.Rules.{rules}
 use Rattle.termbytes.proofs.put_term.Goals as goal
 
 pub double_word_of-word-requires : goal.double_word_of-word-requires

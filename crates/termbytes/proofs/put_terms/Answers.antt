@@ -1,5 +1,4 @@
 -- `termbytes::put_terms` meets its contract: after k turns the terms of the first k monomials stand in the buffer.
-use Prim.Native.Nat.{◌-◌}
 use native.Mathlib.Omega.{arith}
 use mathlib.Core.Path.{◌≡◌}
 use lib.ListN.{length}
@@ -8,7 +7,7 @@ use Rattle.formula.specs.Polynomial.{monomial_count}
 use Rattle.formula.specs.Read.{term_list}
 use Rattle.termbytes.proofs.DoubleWord.{coefficient_back, back_coefficient}
 use Rattle.termbytes.proofs.Coefficients.{coefficient_size}
-use Rattle.termbytes.proofs.TermLists.{TermsPut, terms_start, terms_more, terms_room, terms_long, terms_whole}
+use Rattle.termbytes.proofs.TermLists.{terms_start, terms_more, terms_room, terms_long, terms_whole}
 use Rattle.termbytes.proofs.put_terms.Goals as goal
 
 pub loop-k-init : goal.loop-k-init

@@ -6,7 +6,6 @@ use lib.Seq.{sets}
 use Rattle.formula.specs.Read.{term_list, byte_count}
 use Rattle.formula.specs.Answers.{handed_as}
 use Rattle.termbytes.proofs.Answer.{zeros_length, answer_zero, answer_terms}
-use borrow.Author.Rules.{rules}
 use Rattle.termbytes.proofs.terms_of.Goals as goal
 
 pub put_terms-end-requires : goal.put_terms-end-requires

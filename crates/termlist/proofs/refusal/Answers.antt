@@ -1,5 +1,4 @@
 use mathlib.Core.Path.{refl}
-use borrow.Author.Rules.{rules}
 use Rattle.formula.specs.Read.{handed_back}
 use Rattle.formula.specs.Answers.{handed_as}
 use Rattle.termlist.proofs.refusal.Goals as goal

@@ -25,8 +25,8 @@ pub returns-in-Next : goal.returns-in-Next
 unfolding placed_as stepped_as
 returns-in-Next c =
     step_next
-    (to_z-of_z w64 _ ((search rules)))
-    (to_z-of_z w64 _ ((search rules)))
-    (to_z-of_z w64 _ ((search rules)))
-    (to_z-of_z w64 _ ((search rules)))
+    (to_z-of_z w64 _ (search rules))
+    (to_z-of_z w64 _ (search rules))
+    (to_z-of_z w64 _ (search rules))
+    (to_z-of_z w64 _ (search rules))
     ∙ ap (λ (a : Stepped). step_numbers (stepped_as a)) (sym c.in-Next.is)

@@ -4,7 +4,6 @@ use Rattle.paper.specs.declared.Traced.{Traced}
 use Rattle.paper.specs.Answers.{traced_as}
 use Rattle.walknumbers.specs.Numbers.{trace_numbers}
 use Rattle.walknumbers.proofs.Answers.{trace_listed}
-use borrow.Author.Rules.{rules}
 use Rattle.walknumbers.proofs.trace_numbers.Goals as goal
 
 pub returns-in-Refused : goal.returns-in-Refused

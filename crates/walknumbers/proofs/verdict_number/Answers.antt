@@ -3,7 +3,6 @@ use mathlib.Core.Path.{sym, ap}
 use Rattle.paper.specs.declared.Verdict.{Verdict}
 use Rattle.paper.specs.Answers.{verdict_as}
 use Rattle.walknumbers.specs.Numbers.{verdict_number}
-use borrow.Author.Rules.{rules}
 use Rattle.walknumbers.proofs.verdict_number.Goals as goal
 
 pub returns-in-Loop : goal.returns-in-Loop
