@@ -5,10 +5,6 @@ use Rattle.paper.specs.Listing.{refused_line}
 use Rattle.decimals.proofs.WrittenParts.{writes_then, writes_as}
 use Rattle.text.proofs.put_refused.Goals as goal
 
--- GONE slice-aggregate-put-word
--- slice-aggregate-put-word : tie.Need-slice-aggregate-put-word
--- slice-aggregate-put-word c = search rules
-
 pub returns : goal.returns
 unfolding refused_line
 returns c =
