@@ -1,4 +1,4 @@
-//! Links the proved library, `target/staticlib/libcabi.a` of the repository, into the bench. If the
+//! Links the proved library, `crates/cabi/out/libcabi.a` of the repository, into the bench. If the
 //! variable BEFORE names the archive of an earlier state, that one is linked too, under other
 //! names, so that both are timed in one run. A relative name is taken from the root of the
 //! repository.
@@ -18,7 +18,7 @@ const LATER: [(&str, &str); 4] = [
 
 fn main() {
     let root = Path::new(env!("CARGO_MANIFEST_DIR")).join("..");
-    let archive = root.join("target/staticlib/libcabi.a");
+    let archive = root.join("crates/cabi/out/libcabi.a");
     println!("cargo:rerun-if-changed={}", archive.display());
     println!("cargo:rerun-if-env-changed=BEFORE");
     println!("cargo:rustc-check-cfg=cfg(before)");

@@ -1,4 +1,4 @@
-/* The C interface of Gethwapiko (archive: target/staticlib/libcabi.a, x86-64).
+/* The C interface of Gethwapiko (archive: crates/cabi/out/libcabi.a, x86-64).
  *
  * Each function answers exactly what the definition of document 01 and of the requests says, for every input; the proof is in crates/cabi, and that
  * of the structs' numbers in crates/jobnumbers and the other crates of that name.

@@ -16,8 +16,8 @@ use reference::tally::{Answer, Named, Tally};
 
 /// The program; the test fails if it has not been built.
 fn program() -> PathBuf {
-    let path = PathBuf::from(env!("CARGO_MANIFEST_DIR")).join("../../target/bin/listing");
-    assert!(path.exists(), "the listing program is missing: build target/bin/listing first");
+    let path = PathBuf::from(env!("CARGO_MANIFEST_DIR")).join("../../crates/listing/out/listing");
+    assert!(path.exists(), "the listing program is missing: build crates/listing/out/listing first");
     path
 }
 

@@ -18,8 +18,8 @@ use reference::tally::{Answer, Tally};
 
 /// The program; the test fails if it has not been built.
 fn program() -> PathBuf {
-    let path = PathBuf::from(env!("CARGO_MANIFEST_DIR")).join("../../target/bin/seams");
-    assert!(path.exists(), "the program is missing: build target/bin/seams first");
+    let path = PathBuf::from(env!("CARGO_MANIFEST_DIR")).join("../../crates/seams/out/seams");
+    assert!(path.exists(), "the program is missing: build crates/seams/out/seams first");
     path
 }
 
