@@ -13,7 +13,7 @@ use Rattle.scan.proofs.Gathered.{gathered}
 use Rattle.scan.proofs.Written.{puts_none, same_size, same_space, part_on, part_full}
 use Rattle.scan.proofs.AtVertex.{met_at, met_all, word_is, on_cube, met_here}
 use Rattle.scan.proofs.at_vertex.Goals as goal
-use Rattle.scan.proofs.at_vertex.Goals.{After-at_facet-met, After-way_told-1, In-Full, In-loop-j}
+use Rattle.scan.proofs.at_vertex.Goals.{After-at_facet-met, In-Full, In-loop-j}
 
 pub first-begin-requires : goal.first-begin-requires
 first-begin-requires c = job_axes c.requires.0.job
@@ -30,18 +30,18 @@ inside : (c : In-loop-j) → c.loop-j.j < chain_count c.args.n
 inside c = omega (arith, c.loop-j-test.true, c.count-last.ensures, chains_counted _ (job_axes c.requires.0.job))
 
 pub bounds-table-begin : goal.bounds-table-begin
-bounds-table-begin c = omega (arith, c.first-begin.ensures, chain_inside _ (job_axes c.requires.0.job) c.loop-j.j (inside (goal.at.bounds-table-begin c).After-way_told-1))
+bounds-table-begin c = omega (arith, c.first-begin.ensures, chain_inside _ (job_axes c.requires.0.job) c.loop-j.j (inside (goal.at.bounds-table-begin c).In-loop-j))
 
 pub overflow_add-begin : goal.overflow_add-begin
-overflow_add-begin c = omega (arith, element-copy-out-place-on (goal.at.overflow_add-begin c).In-loop-j)
+overflow_add-begin c = omega (arith, c.first-begin.ensures, chain_inside _ (job_axes c.requires.0.job) c.loop-j.j (inside (goal.at.overflow_add-begin c).In-loop-j))
 
 pub offset_bounds-table-begin : goal.offset_bounds-table-begin
-offset_bounds-table-begin c = omega (arith, element-copy-out-place-on (goal.at.offset_bounds-table-begin c).In-loop-j)
+offset_bounds-table-begin c = omega (arith, c.first-begin.ensures, chain_inside _ (job_axes c.requires.0.job) c.loop-j.j (inside (goal.at.offset_bounds-table-begin c).In-loop-j))
 
 pub at_facet-met-requires : goal.at_facet-met-requires
 at_facet-met-requires c =
     let inv = c.loop-j.invariant in (
-      on_cube c.requires.0 (inside (goal.at.at_facet-met-requires c).After-way_told-1) (word_is _ _ c.requires.1.0 c.first-begin.ensures) c.place_on-p.ensures,
+      on_cube c.requires.0 (inside (goal.at.at_facet-met-requires c).In-loop-j) (word_is _ _ c.requires.1.0 c.first-begin.ensures) c.place_on-p.ensures,
       omega (arith, inv.1.1, same_space inv.1.0),
     )
 
@@ -55,7 +55,7 @@ answered c =
     let n = c.args.n in
     let loop = c.loop-j in
     subst (λ fs. ScannedIs n loop.buffer loop.found fs c.at_facet-met.new.buffer c.at_facet-met.result)
-    (met_here c.requires.0 (inside c.before.before.before.before) (word_is _ _ c.requires.1.0 c.first-begin.ensures) c.place_on-p.ensures (least_in c.args.job.now))
+    (met_here c.requires.0 (omega (arith, c.loop-j-test.true, c.count-last.ensures, chains_counted _ (job_axes c.requires.0.job))) (word_is _ _ c.requires.1.0 c.first-begin.ensures) c.place_on-p.ensures (least_in c.args.job.now))
     c.at_facet-met.ensures
 
 -- one more remains
@@ -68,7 +68,11 @@ left_over c =
     let a = c.args in
     let loop = c.loop-j in
     subst (λ r. ScannedIs a.n loop.buffer loop.found (met_at (least_in a.job.now) a.n (vertex_as a.n a.v) loop.j) c.at_facet-met.new.buffer r)
-    c.in-Full.is (answered c.before.before.before.before)
+    c.in-Full.is
+    (subst (λ fs. ScannedIs a.n loop.buffer loop.found fs c.at_facet-met.new.buffer c.at_facet-met.result)
+    (met_here c.requires.0 (omega (arith, c.loop-j-test.true, c.count-last.ensures, chains_counted _ (job_axes c.requires.0.job)))
+    (word_is _ _ c.requires.1.0 c.first-begin.ensures) c.place_on-p.ensures (least_in a.job.now))
+    c.at_facet-met.ensures)
 
 pub shape_of-buffer-in-Full : goal.shape_of-buffer-in-Full
 shape_of-buffer-in-Full c = same_size (left_over (goal.at.shape_of-buffer-in-Full c).In-Full).puts ∙ same_size c.loop-j.invariant.1.0
@@ -80,10 +84,10 @@ returns-in-Full c =
     let F = met_at (least_in a.job.now) a.n (vertex_as a.n a.v) in
     subst (λ fs. NoSpace a.n a.buffer.now a.count fs c.at_facet-met.new.buffer)
     (met_all (least_in a.job.now) a.n (vertex_as a.n a.v) (job_axes c.requires.0.job))
-    (part_full F loop.j loop.invariant.1.0 (chain_count a.n) (inside (goal.at.returns-in-Full c).After-way_told-1) (left_over (goal.at.returns-in-Full c).In-Full))
+    (part_full F loop.j loop.invariant.1.0 (chain_count a.n) (inside (goal.at.returns-in-Full c).In-loop-j) (left_over (goal.at.returns-in-Full c).In-Full))
 
 pub overflow_add-j : goal.overflow_add-j
-overflow_add-j c = omega (arith, inside (goal.at.overflow_add-j c).After-way_told-1, few_chains _ (job_axes c.requires.0.job))
+overflow_add-j c = omega (arith, inside (goal.at.overflow_add-j c).In-loop-j, few_chains _ (job_axes c.requires.0.job))
 
 pub loop-j-smaller : goal.loop-j-smaller
 loop-j-smaller c = omega (arith, c.loop-j-test.true)

@@ -18,22 +18,20 @@ fill-requires c =
 pub one_sided-requires : goal.one_sided-requires
 one_sided-requires c =
     let cube = c.fill.ensures in
-    (job_axes c.before.before.before.before.before.before.before.before.requires.0.0, (cube.within, (cube.room, cube.tests)))
+    (job_axes c.requires.job_of.0, (cube.within, (cube.room, cube.tests)))
 
 pub returns-then-one_sided : goal.returns-then-one_sided
 returns-then-one_sided c =
-    let pre = c.before.before.before.before.before.before.before.before.before.before.requires in
-    let a = c.before.before.before.before.before.before.before.before.before.before.args in
+    let a = c.args in
     let cube = c.fill.ensures in record { seams = (
         subst (λ fs. Puts a.n a.buffer.now a.count fs a.buffer.now a.count)
-            (sym (nothing_met (cube_at pre.0.0 pre.0.1.0 cube) (c.one_sided.ensures c.if-one_sided.true))) (puts_none _ _ _),
-        pre.0.1.1.1,
+            (sym (nothing_met (cube_at c.requires.job_of.0 c.requires.job_of.1.0 cube) (c.one_sided.ensures c.if-one_sided.true))) (puts_none _ _ _),
+        c.requires.job_of.1.1.1,
       ); room = record { left = cube.left; within = cube.within; room = cube.room; tests = cube.tests } }
 
 pub at_vertex-requires : goal.at_vertex-requires
 at_vertex-requires c =
-    let pre = c.before.before.before.before.before.before.before.before.before.before.before.before.before.requires in
-    (cube_at pre.0.0 pre.0.1.0 c.fill.ensures, (pre.0.1.1.0, pre.0.1.1.1))
+    (cube_at c.requires.job_of.0 c.requires.job_of.1.0 c.fill.ensures, (c.requires.job_of.1.1.0, c.requires.job_of.1.1.1))
 
 pub returns : goal.returns
 returns c =

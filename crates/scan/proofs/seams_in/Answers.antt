@@ -68,7 +68,10 @@ left_over c =
     let a = c.args in
     let loop = c.loop-i in
     subst (λ r. ScannedIs a.n loop.buffer loop.count (met_in a.job.now loop.i) c.scan_vertex-met.new.buffer r)
-    c.in-Full.is (answered c.before.before.before.before)
+    c.in-Full.is
+    (subst (λ fs. ScannedIs a.n loop.buffer loop.count fs c.scan_vertex-met.new.buffer c.scan_vertex-met.result)
+    (met_at a.job.now loop.i c.requires.dimension (vertex_as a.n c.vertex_at-v.result) (c.vertex_at-v.ensures.by_index _ _ c.frame_of-frame.ensures))
+    c.scan_vertex-met.ensures.seams)
 
 pub shape_of-buffer-in-Full : goal.shape_of-buffer-in-Full
 shape_of-buffer-in-Full c = same_size (left_over (goal.at.shape_of-buffer-in-Full c).In-Full).puts ∙ same_size c.loop-i.invariant.1.0.0
@@ -83,7 +86,7 @@ returns-in-Full c =
     (ap (gathered (met_in a.job.now)) f.size ∙ met_everywhere a.job.now)
     (part_full (met_in a.job.now) loop.i loop.invariant.1.0.0 _ c.loop-i-test.true (left_over (goal.at.returns-in-Full c).In-Full)) in
     let e = one_left c.requires a.buffer.now w in
-    record { answer = ap (λ m. seamed_as (Seamed.TheVariants.Full (m / (3 * a.n)))) (same_length (goal.at.returns-in-Full c).In-Full) ∙ e.answer; written = e.buffer }
+    record { answer = ap (λ m. seamed_as (Seamed.TheVariants.Full (m / (3 * a.n)))) (same_size (left_over (goal.at.returns-in-Full c).In-Full).puts ∙ same_size c.loop-i.invariant.1.0.0) ∙ e.answer; written = e.buffer }
 
 pub overflow_add-i : goal.overflow_add-i
 overflow_add-i c = omega (arith, c.loop-i-test.true, frame_few c.frame_of-frame.ensures.fits)
