@@ -66,9 +66,8 @@ fn declares(line: &str, name: &str, rust: bool) -> bool {
             .filter_map(|word| line.find(word).map(|at| (at, &line[at + word.len()..])))
             .any(|(at, rest)| {
                 let before = &line[..at];
-                let item_only = before
-                    .split_whitespace()
-                    .all(|w| ["pub", "extern", "\"C\"", "#[no_mangle]"].contains(&w));
+                let item_only =
+                    before.split_whitespace().all(|w| ["pub", "extern", "\"C\""].contains(&w));
                 item_only && word_then(rest, name, &[' ', '(', '<', ':', ';', '{', '\0'])
             });
         return item || line.starts_with(&format!("'{name}:"));
@@ -134,6 +133,39 @@ pub fn renewed(page: &str) -> Result<String, String> {
         }
     }
     Ok(out)
+}
+
+/// README with the number of lines behind each file that it counts, and their sum.
+pub fn recounted(readme: &str) -> Result<String, String> {
+    let mut out = String::new();
+    let mut sum = 0;
+    for (at, part) in readme.split("](").enumerate() {
+        if at > 0 {
+            out.push_str("](");
+        }
+        match counted(part).filter(|_| at > 0) {
+            Some((target, stated)) => {
+                let file = fs::read_to_string(root().join(target))
+                    .map_err(|_| format!("README counts a file that is not there: {target}"))?;
+                let lines = file.lines().count();
+                sum += lines;
+                out.push_str(&format!("{target}) ({lines})"));
+                out.push_str(&part[target.len() + ") ()".len() + stated.len()..]);
+            }
+            None => out.push_str(part),
+        }
+    }
+    let end = out.find(" lines in all").ok_or("README does not say how many lines in all")?;
+    let begin = out[..end].rfind('(').ok_or("README does not say how many lines in all")? + 1;
+    out.replace_range(begin..end, &format!("{},{:03}", sum / 1000, sum % 1000));
+    Ok(out)
+}
+
+/// The file and the number that begin the text, `crates/c/specs/F.antt) (12)`.
+fn counted(text: &str) -> Option<(&str, &str)> {
+    let (target, rest) = text.split_once(") (")?;
+    let (stated, _) = rest.split_once(')')?;
+    stated.parse::<usize>().ok().map(|_| (target, stated))
 }
 
 /// A must-fail edit: `crate/label`, and the number of the promise that its first line names.
