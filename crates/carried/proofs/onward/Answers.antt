@@ -64,7 +64,9 @@ move_columns-requires c =
 
 pub beyond-requires : goal.beyond-requires
 beyond-requires c =
-    let k = c.requires in record { in_table = (k.found.table, c.vertex_masks-masks.ensures); out_le_n = (
+    let k = c.requires in record {
+      in_table = (k.found.table, c.vertex_masks-masks.ensures);
+      out_le_n = (
         k.found.vertex,
         (
           exit_low k (corner-is (goal.at.beyond-requires c).After-corner_of-corner) c.new_vertex-v.result (vertex_is (goal.at.beyond-requires c).After-new_vertex-v)
@@ -72,7 +74,8 @@ beyond-requires c =
               c.put_values.ensures (not-false _ c.if-not-put_values.false-raw) c.exit-exit.ensures,
           corner_moves k.held (corner-is (goal.at.beyond-requires c).After-corner_of-corner),
         ),
-      ) }
+      );
+    }
 
 pub returns : goal.returns
 returns c =

@@ -47,10 +47,13 @@ walk_along-requires c =
     let a = c.args in
     let pre = c.requires in
     let loop = c.loop-j in
-    let s = a.job.now in record { job_of = pre.0; outer_value = (
+    let s = a.job.now in record {
+      job_of = pre.0;
+      outer_value = (
         ap (point_refusal s) (part_is s a.places.now pre.0.dimension (loop.j - 1) refl) ∙ pre.2 (loop.j - 1) (omega (arith, loop.invariant.below, c.loop-j-test.true)),
         ap (point_refusal s) (part_is s a.places.now pre.0.dimension a.k refl) ∙ pre.2 a.k (omega arith),
-      ) }
+      );
+    }
 
 pub returns-in-Same : goal.returns-in-Same
 unfolding position_as is_same is_inside

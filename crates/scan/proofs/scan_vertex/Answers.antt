@@ -23,11 +23,14 @@ one_sided-requires c =
 pub returns-then-one_sided : goal.returns-then-one_sided
 returns-then-one_sided c =
     let a = c.args in
-    let cube = c.fill.ensures in record { seams = (
+    let cube = c.fill.ensures in record {
+      seams = (
         subst (λ fs. Puts a.n a.buffer.now a.count fs a.buffer.now a.count)
             (sym (nothing_met (cube_at c.requires.job_of.0 c.requires.job_of.1.0 cube) (c.one_sided.ensures c.if-one_sided.true))) (puts_none _ _ _),
         c.requires.job_of.1.1.1,
-      ); room = record { left = cube.left; within = cube.within; room = cube.room; tests = cube.tests } }
+      );
+      room = record { left = cube.left; within = cube.within; room = cube.room; tests = cube.tests };
+    }
 
 pub at_vertex-requires : goal.at_vertex-requires
 at_vertex-requires c =

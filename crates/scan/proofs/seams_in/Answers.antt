@@ -20,19 +20,18 @@ use Rattle.scan.proofs.seams_in.Goals.{After-scan_vertex-met, In-Full}
 
 pub loop-i-init : goal.loop-i-init
 unfolding gathered
-loop-i-init c =
-    (
-      omega arith,
-      (
-        (puts_none _ _ _, omega arith),
-        record {
-          left = zero_cells (job_axes c.requires);
-          within = c.no_values-values.ensures.0 _;
-          room = c.no_values-values.ensures.1;
-          tests = c.none_known-known.ensures;
-        },
-      ),
-    )
+loop-i-init c = (
+  omega arith,
+  (
+    (puts_none _ _ _, omega arith),
+    record {
+      left = zero_cells (job_axes c.requires);
+      within = c.no_values-values.ensures.0 _;
+      room = c.no_values-values.ensures.1;
+      tests = c.none_known-known.ensures;
+    },
+  ),
+)
 
 pub vertex_at-v-requires : goal.vertex_at-v-requires
 vertex_at-v-requires c = (c.frame_of-frame.ensures.fits, c.loop-i-test.true)
