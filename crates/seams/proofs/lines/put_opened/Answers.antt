@@ -9,20 +9,20 @@ use Rattle.seams.proofs.lines.put_opened.Goals as goal
 pub put_list-requires : goal.put_list-requires
 put_list-requires c =
     let l = c.seams_listed in (
-      s.requires.0,
+      c.requires.0,
       (
-        listed_complete s.args.job.now _ l.ensures c.in-Complete.is,
-        (l.auto.1.1.0 ∙ s.requires.1.0, s.requires.1.1),
+        listed_complete c.args.job.now _ l.ensures c.in-Complete.is,
+        (l.auto.places ∙ c.requires.1.0, c.requires.1.1),
       ),
     )
 
 pub put_list-requires-in-Full : goal.put_list-requires-in-Full
 put_list-requires-in-Full c =
     let l = c.seams_listed in (
-      s.requires.0,
+      c.requires.0,
       (
-        listed_full s.args.job.now _ l.ensures c.in-Full.is,
-        (l.auto.1.1.0 ∙ s.requires.1.0, s.requires.1.1),
+        listed_full c.args.job.now _ l.ensures c.in-Full.is,
+        (l.auto.places ∙ c.requires.1.0, c.requires.1.1),
       ),
     )
 

@@ -25,5 +25,4 @@ seams_in-requires c = c.requires.0
 
 pub returns : goal.returns
 returns c =
-    let found = (c.seams_in.ensures.answer, c.seams_in.ensures.written) in
-    part_listed {room = 12288 * c.args.n} c.requires.0 c.args.places.now c.requires.1 _ found.0 found.1 (rw listing_space_lem (omega arith))
+    part_listed {room = 12288 * c.args.n} c.requires.0 c.args.places.now c.requires.1 _ c.seams_in.ensures.answer c.seams_in.ensures.written (rw listing_space_lem (omega arith))

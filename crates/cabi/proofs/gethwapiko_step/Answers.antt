@@ -1,0 +1,8 @@
+-- `cabi::gethwapiko_step` meets its contract: the numbers of what Step answers.
+use mathlib.Core.Path.{◌∙◌}
+use Rattle.cabi.proofs.Answers.{step_as}
+use borrow.Author.Rules.{rules}
+use Rattle.cabi.proofs.gethwapiko_step.Goals as goal
+
+pub returns : goal.returns
+returns c = c.step_numbers.ensures ∙ step_as _ _ c.step.ensures
