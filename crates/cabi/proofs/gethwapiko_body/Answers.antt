@@ -1,5 +1,4 @@
 -- `cabi::gethwapiko_body` meets its contract: that of the function that it calls.
-use borrow.Author.Rules.{rules}
 use Rattle.cabi.proofs.gethwapiko_body.Goals as goal
 
 pub returns : goal.returns

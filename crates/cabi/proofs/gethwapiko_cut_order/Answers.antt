@@ -1,6 +1,5 @@
 -- `cabi::gethwapiko_cut_order` meets its contract: the numbers of what the operation answers.
 use mathlib.Core.Path.{ap, ◌∙◌}
-use borrow.Author.Rules.{rules}
 use Rattle.seamnumbers.specs.Numbers.{order_numbers}
 use Rattle.cabi.proofs.gethwapiko_cut_order.Goals as goal
 

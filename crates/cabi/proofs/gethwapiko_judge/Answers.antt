@@ -1,7 +1,6 @@
 -- `cabi::gethwapiko_judge` meets its contract: the numbers of what Judge answers.
 use mathlib.Core.Path.{ap, ◌∙◌}
 use Rattle.judgenumbers.specs.Numbers.{judge_numbers}
-use borrow.Author.Rules.{rules}
 use Rattle.cabi.proofs.gethwapiko_judge.Goals as goal
 
 pub returns : goal.returns

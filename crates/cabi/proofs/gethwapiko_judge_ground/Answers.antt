@@ -1,7 +1,6 @@
 -- `cabi::gethwapiko_judge_ground` meets its contract: the numbers of what Judge with its ground answers.
 use mathlib.Core.Path.{ap, ◌∙◌}
 use Rattle.judgenumbers.specs.Numbers.{ground_numbers}
-use borrow.Author.Rules.{rules}
 use Rattle.cabi.proofs.gethwapiko_judge_ground.Goals as goal
 
 pub returns : goal.returns

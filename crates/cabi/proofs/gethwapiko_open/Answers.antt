@@ -1,7 +1,6 @@
 -- `cabi::gethwapiko_open` meets its contract: the numbers of what Open answers.
 use mathlib.Core.Path.{ap, ◌∙◌}
 use Rattle.jobnumbers.specs.Numbers.{open_numbers}
-use borrow.Author.Rules.{rules}
 use Rattle.cabi.proofs.gethwapiko_open.Goals as goal
 
 pub returns : goal.returns

@@ -1,7 +1,6 @@
 -- `cabi::gethwapiko_pen` meets its contract: the numbers of what Pen answers.
 use mathlib.Core.Path.{ap, ◌∙◌}
 use Rattle.pointnumbers.specs.Numbers.{is_set, pen_numbers}
-use borrow.Author.Rules.{rules}
 use Rattle.cabi.proofs.gethwapiko_pen.Goals as goal
 
 pub returns : goal.returns

@@ -1,7 +1,6 @@
 -- `cabi::gethwapiko_point` meets its contract: the numbers of what Point answers.
 use mathlib.Core.Path.{◌∙◌}
 use Rattle.cabi.proofs.Answers.{point_as}
-use borrow.Author.Rules.{rules}
 use Rattle.cabi.proofs.gethwapiko_point.Goals as goal
 
 pub returns : goal.returns

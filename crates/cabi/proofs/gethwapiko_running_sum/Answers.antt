@@ -1,7 +1,6 @@
 -- `cabi::gethwapiko_running_sum` meets its contract: the numbers of what the running sum answers.
 use mathlib.Core.Path.{◌∙◌}
 use Rattle.cabi.proofs.Answers.{sum_as}
-use borrow.Author.Rules.{rules}
 use Rattle.cabi.proofs.gethwapiko_running_sum.Goals as goal
 
 pub returns : goal.returns

@@ -1,7 +1,6 @@
 -- `cabi::gethwapiko_seams` meets its contract: the numbers of what the scan answers, and the buffer as it left it.
 use mathlib.Core.Path.{ap, ◌∙◌}
 use Rattle.seamnumbers.specs.Numbers.{seams_numbers}
-use borrow.Author.Rules.{rules}
 use Rattle.cabi.proofs.gethwapiko_seams.Goals as goal
 
 pub returns : goal.returns

@@ -2,7 +2,6 @@
 -- left it.
 use mathlib.Core.Path.{ap, ◌∙◌}
 use Rattle.walknumbers.specs.Numbers.{trace_numbers}
-use borrow.Author.Rules.{rules}
 use Rattle.cabi.proofs.gethwapiko_small_trace.Goals as goal
 
 pub returns : goal.returns

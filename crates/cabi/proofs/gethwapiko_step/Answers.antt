@@ -1,7 +1,6 @@
 -- `cabi::gethwapiko_step` meets its contract: the numbers of what Step answers.
 use mathlib.Core.Path.{◌∙◌}
 use Rattle.cabi.proofs.Answers.{step_as}
-use borrow.Author.Rules.{rules}
 use Rattle.cabi.proofs.gethwapiko_step.Goals as goal
 
 pub returns : goal.returns

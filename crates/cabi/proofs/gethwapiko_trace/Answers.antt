@@ -1,7 +1,6 @@
 -- `cabi::gethwapiko_trace` meets its contract: the numbers of what Trace answers, and the buffer as Trace left it.
 use mathlib.Core.Path.{ap, ◌∙◌}
 use Rattle.walknumbers.specs.Numbers.{trace_numbers}
-use borrow.Author.Rules.{rules}
 use Rattle.cabi.proofs.gethwapiko_trace.Goals as goal
 
 pub returns : goal.returns

@@ -1,7 +1,6 @@
 -- `cabi::gethwapiko_write_job` meets its contract: the numbers of what the operation answers, and the buffer as it left it.
 use mathlib.Core.Path.{ap, ◌∙◌}
 use Rattle.jobnumbers.specs.Numbers.{write_numbers}
-use borrow.Author.Rules.{rules}
 use Rattle.cabi.proofs.gethwapiko_write_job.Goals as goal
 
 pub returns : goal.returns
