@@ -19,9 +19,5 @@ overflow_sub-result c = c.requires.low
 pub offset_bounds-n : goal.offset_bounds-n
 offset_bounds-n c = omega (arith, c.requires.high)
 
--- GONE array-read-result
--- array-read-result : tie.Need-array-read-result
--- array-read-result c = omega (arith, c.requires.high)
-
 pub returns : goal.returns
 returns c = limit_is c.args.n c.requires

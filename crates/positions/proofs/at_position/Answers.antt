@@ -1,6 +1,5 @@
 -- `positions::at_position` meets its contract: the trace from the place decides, then the earlier positions.
 use native.Mathlib.Omega.{arith}
-use borrow.Author.Rules.{rules}
 use mathlib.Core.Path.{refl, sym, ap, ◌∙◌}
 use Rattle.paper.specs.Answers.{traced_as}
 use Rattle.positions.specs.Positions.{position_as}
@@ -16,10 +15,6 @@ overflow_mul-k-2 c = omega (arith, c.requires.1)
 
 pub overflow_add-k : goal.overflow_add-k
 overflow_add-k c = omega (arith, c.requires.1)
-
--- GONE slice-bounds-trace-length-end
--- part-place-end : tie.Need-slice-bounds-trace-length-end
--- part-place-end c = omega (arith, c.before.before.requires.1)
 
 pub trace_length-requires : goal.trace_length-requires
 trace_length-requires c = c.requires.0

@@ -2,7 +2,6 @@
 -- that of k is known. The measure is j.
 use Prim.Native.Nat.{◌-◌}
 use native.Mathlib.Omega.{arith}
-use borrow.Author.Rules.{rules}
 use mathlib.Core.Path.{refl, ap, ◌∙◌}
 use Rattle.paper.specs.Operations.{point_refusal}
 use Rattle.positions.specs.Positions.{position_as}
@@ -19,10 +18,6 @@ overflow_mul-place-2 c = omega (arith, c.requires.1)
 pub overflow_add-place : goal.overflow_add-place
 overflow_add-place c = omega (arith, c.requires.1)
 
--- GONE slice-bounds-place-end
--- part-place-end : tie.Need-slice-bounds-place-end invariant-loop decreases-loop
--- part-place-end c = omega (arith, c.before.before.requires.1)
-
 pub loop-j-init : goal.loop-j-init
 loop-j-init c = comparing_begins _ _ _
 
@@ -37,10 +32,6 @@ overflow_mul-other-in-loop-j c = omega (arith, c.requires.1, c.loop-j.invariant.
 
 pub overflow_add-other : goal.overflow_add-other
 overflow_add-other c = omega (arith, c.requires.1, c.loop-j.invariant.below)
-
--- GONE slice-bounds-other-end
--- part-other-end : tie.Need-slice-bounds-other-end invariant-loop decreases-loop
--- part-other-end c = omega (arith, c.before.before.before.before.before.requires.1, c.before.loop.invariant.below)
 
 pub walk_along-requires : goal.walk_along-requires
 walk_along-requires c =

@@ -4,23 +4,14 @@ use mathlib.Core.Bool.{Bool}
 use native.Mathlib.Omega.{arith}
 use Rattle.decimals.proofs.WrittenParts.{writes_as}
 use Rattle.seamlist.specs.SeamText.{extent_word}
-use borrow.Author.Rules.{rules}
 use Rattle.seams.specs.Listed.{extent_as}
 use Rattle.seams.proofs.lines.put_extent.Goals as goal
-
--- GONE slice-aggregate-put-word
--- slice-aggregate-put-word : tie.Need-slice-aggregate-put-word
--- slice-aggregate-put-word c = search rules
 
 pub returns-then-all : goal.returns-then-all
 unfolding extent_word extent_as
 returns-then-all c =
     writes_as (sym (ap (λ (b : Bool). extent_word (extent_as b)) c.if-all.true)) (omega arith)
     c.put_word.ensures
-
--- GONE slice-aggregate-put-word-2
--- slice-aggregate-put-word-2 : tie.Need-slice-aggregate-put-word-2
--- slice-aggregate-put-word-2 c = search rules
 
 pub returns : goal.returns
 unfolding extent_word extent_as
