@@ -1,4 +1,5 @@
 -- `judge::judge` meets its contract: Open's refusal, the place's, or crossed or not.
+use native.Mathlib.Omega.{arith}
 use mathlib.Core.Path.{sym, ◌∙◌}
 use mathlib.Core.Bool.{true, false}
 use Rattle.paper.specs.Answers.{judged_as}
@@ -18,7 +19,7 @@ returns-then-refusal-ne0 c =
 
 -- the job has opened
 job : (c : After-opened_dimension-n) → JobOf c.opened_dimension-n.result c.args.job.now
-job c = opened c.open_refusal-refusal.ensures c.if-refusal-ne0.false c.opened_dimension-n.ensures
+job c = opened c.open_refusal-refusal.ensures (omega arith) c.opened_dimension-n.ensures
 
 pub place_in-here-requires : goal.place_in-here-requires
 place_in-here-requires c = (job (goal.at.place_in-here-requires c).After-opened_dimension-n, zero_cells (job_axes (job (goal.at.place_in-here-requires c).After-opened_dimension-n)))
