@@ -2,7 +2,7 @@
 
 #![tactic(auto)]
 
-mod limits;
+mod sizes;
 
 ghost use Rattle.std.specs.Prelude.{◌≡◌};
 ghost use Rattle.paper.specs.Operations.{space_of, verdict_and_count, buffer_after};
@@ -19,7 +19,7 @@ fn refusal(job: &[u8]) -> u64
     if refusal != 0 {
         return refusal;
     }
-    if limits::job_small(job::opened_dimension(job), job) {
+    if sizes::job_small(job::opened_dimension(job), job) {
         return 0;
     }
     17

@@ -1,4 +1,4 @@
--- `benchtop::limits::job_small` meets its contract: the box, then the polynomials.
+-- `benchtop::sizes::job_small` meets its contract: the box, then the polynomials.
 use mathlib.Core.Path.{sym, ap, ◌∙◌}
 use Prim.Native.Nat.{ℕ, ◌*◌}
 use lib.ListN.{length}
@@ -6,7 +6,7 @@ use borrow.Author.Rules.{rules}
 use Rattle.paper.proofs.Bodies.{box_length}
 use Rattle.job.proofs.OpenJob.{job_opens}
 use Rattle.benchtop.proofs.LimitTests.{box_over, polynomials_decide}
-use Rattle.benchtop.proofs.limits.job_small.Goals as goal
+use Rattle.benchtop.proofs.sizes.job_small.Goals as goal
 
 pub box_between-requires : goal.box_between-requires
 box_between-requires c =
