@@ -7,9 +7,10 @@ ghost use Rattle.assembly.specs.Assembled.{handed};
 ghost use Rattle.assembly.specs.Written.{written, buffer_written};
 ghost use Rattle.assembly.specs.Answers.{written_as};
 
-use assembly::JobWritten;
+use paper::Refusal;
 
-// Writing a job: the refusal's number, or its length. The job stands in the buffer from its front on; a refusal touches nothing.
+// Writing a job: a refusal, or its length. The job stands in the buffer from its front on; a refusal touches nothing.
+// Eight parameters, not a struct: so C hands them over.
 pub fn write_job<'a>(
     n: usize,
     bias: u8,
@@ -19,20 +20,17 @@ pub fn write_job<'a>(
     polynomial3: &'a [u8],
     start: &'a [u8],
     buffer: &mut [u8],
-) -> JobWritten
+) -> Result<u64, Refusal>
     ensures answer { written_as result ≡ written (handed n bias bounds.now polynomial1.now polynomial2.now polynomial3.now start.now) buffer.old }
     ensures bytes { buffer.new ≡ buffer_written (handed n bias bounds.now polynomial1.now polynomial2.now polynomial3.now start.now) buffer.old }
 {
     if !limits::dimension_ok(n) {
-        return JobWritten::Refused(3);
+        return Err(Refusal::Dimension);
     }
     let bodies = loose::arranged(n, bounds, polynomial1, polynomial2, polynomial3, start);
-    let refusal = loose::form_refusal(n, bodies);
-    if refusal != 0 {
-        return JobWritten::Refused(refusal);
-    }
+    loose::test_form(n, bodies)?;
     if buffer.len() < loose::job_length(n, bodies) {
-        return JobWritten::Refused(16);
+        return Err(Refusal::Room);
     }
-    JobWritten::Length(writer::lay(buffer, n, bias, bodies) as u64)
+    Ok(writer::lay(buffer, n, bias, bodies) as u64)
 }

@@ -15,7 +15,7 @@ use Rattle.paper.proofs.Tests.{all_same}
 use Rattle.paper.proofs.Terms.{between_size, box_axis}
 use Rattle.boxes.specs.Between.{axis_between, box_between}
 use Rattle.job.specs.OpenJob.{JobOf}
-use Rattle.job.proofs.OpenJob.{job_opens}
+use Rattle.job.proofs.Opened.{job_opens}
 use Rattle.small.specs.Small.{small_coordinate_limit, small_term_limit, end_small, axis_small, box_small, terms_small, job_small}
 use Rattle.small.proofs.TooLarge.{end_test}
 
@@ -59,16 +59,6 @@ box_decides n b h = all_same (axis_between (negsuc 63) (pos 64) b) (axis_small b
     axis : (a : ℕ) → a < n → axis_between (negsuc 63) (pos 64) b a ≡ axis_small b a
     axis a l = unfold axis_between in unfold axis_small in unfold small_coordinate_limit in unfold neg in
         ends_between (low_end b a) (high_end b a) (box_axis n b a h l).rising
-
--- ---- a polynomial's count of terms
-
-pub count_over : (s : List ℕ) (k : ℕ) {m : ℕ} → m ≡ polynomial_terms s k → 16 < m → terms_small s k ≡ false
-unfolding terms_small small_term_limit
-count_over s k e h = lt-leb (polynomial_terms s k) 16 (omega (arith, e, h))
-
-pub count_within : (s : List ℕ) (k : ℕ) {m : ℕ} → m ≡ polynomial_terms s k → m ≤ 16 → terms_small s k ≡ true
-unfolding terms_small small_term_limit
-count_within s k e h = le-leb (polynomial_terms s k) 16 (omega (arith, e, h))
 
 -- ---- the job
 

@@ -3,3 +3,4 @@ pub mod EachDimension
 pub mod SignedBits
 pub mod MaskBits
 pub mod Sets
+pub mod RangeAll

@@ -8,8 +8,5 @@ pub fn skip(p: usize, i: usize) -> usize
     requires { i < 5 }
     ensures { (result ≡ skip p i) × (result ≤ i + 1) }
 {
-    if i < p {
-        return i;
-    }
-    i + 1
+    if i < p { i } else { i + 1 }
 }

@@ -2,25 +2,32 @@
 
 #![tactic(auto)]
 
-ghost use Rattle.std.specs.Prelude.{◌≡◌, ◌+◌, ◌<◌};
+ghost use Rattle.std.specs.Prelude.{◌≡◌, MatchOption};
+ghost use Rattle.paper.specs.Job.{entry_offset, body};
 ghost use Rattle.paper.specs.Operations.{body_refusal, body_part};
+ghost use Rattle.paper.specs.Refusals.{RefusedOr, refusal_number};
 ghost use Rattle.entries.specs.Parts.{BeginsAt};
-ghost use Rattle.body.specs.PartOffset.{part_offset};
+ghost use Rattle.body.specs.PartOffset.{part_offset, PartOf};
 
-use job::{open_refusal, opened_body, opened_dimension};
+use job::OpenJob;
+use paper::Refusal;
 
-// Body's refusal: Open's, then 12 if the index is not under n + 1; 0 if there is none.
-pub fn body_refusal(job: &[u8], k: usize) -> u64
-    ensures { result ≡ body_refusal job.now k }
+// Body: the part of the job that holds body k, or a refusal: Open's, then 12 if the index is not under n + 1.
+fn part(job: &[u8], k: usize) -> Result<&[u8], Refusal>
+    ensures { RefusedOr (body_refusal job.entry.now k) (PartOf job.entry k) result }
 {
-    let refusal = open_refusal(job);
-    if refusal != 0 {
-        return refusal;
+    let job = OpenJob::open(job)?;
+    if job.n < k {
+        return Err(Refusal::Index);
     }
-    if k < opened_dimension(job) + 1 {
-        return 0;
-    }
-    12
+    Ok(job.body(k))
+}
+
+// Body's refusal, if it has one.
+pub fn body_refusal(job: &[u8], k: usize) -> Option<Refusal>
+    ensures { MatchOption result (body_refusal job.now k ≡ 0) (λ e. refusal_number e ≡ body_refusal job.now k) }
+{
+    part(job, k).err()
 }
 
 // Body's answer: the part of the job that holds body k, empty for a refusal.
@@ -28,8 +35,5 @@ pub fn body_part(job: &[u8], k: usize) -> &[u8]
     ensures place { BeginsAt job.entry (part_offset job.now k) result }
     ensures bytes { result.now ≡ body_part job.now k }
 {
-    if body_refusal(job, k) != 0 {
-        return &job[0..0];
-    }
-    opened_body(job, k)
+    part(job, k).unwrap_or(&job[0..0])
 }

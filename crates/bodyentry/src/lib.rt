@@ -16,17 +16,15 @@ pub fn body_entry(job: &[u8], index: u64) -> BodyAnswer
     ensures inside { result.offset + result.length ≤ length job.now }
 {
     let k = index as usize;
-    let refusal = body::body_refusal(job, k);
-    if refusal != 0 {
-        return BodyAnswer {
-            refusal,
-            offset: 0,
-            length: 0,
-        };
-    }
-    BodyAnswer {
-        refusal: 0,
-        offset: read::word(job, 4 * k + 4),
-        length: read::word(job, 4 * k + 6),
+    match body::body_refusal(job, k) {
+        Some(refusal) => BodyAnswer {
+            refusal: refusal.number(),
+            ..BodyAnswer::default()
+        },
+        None => BodyAnswer {
+            refusal: 0,
+            offset: read::word(job, 4 * k + 4),
+            length: read::word(job, 4 * k + 6),
+        },
     }
 }

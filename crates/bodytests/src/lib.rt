@@ -2,42 +2,42 @@
 
 #![tactic(auto)]
 
-ghost use Rattle.std.specs.Prelude.{◌≡◌, true, false, ◌-◌, ◌<◌};
-ghost use Rattle.paper.specs.Job.{body, contents_ok, all_from, polynomial_ok};
+ghost use Rattle.std.specs.Prelude.{◌≡◌, ℕ, List, ◌*◌, ◌≤◌, length};
+ghost use Rattle.paper.specs.Refusals.{RefusedOr};
 ghost use Rattle.bits.specs.Axes.{Axes};
-ghost use Rattle.bodytests.specs.BodyTests.{bodies_refusal};
+ghost use Rattle.bodytests.specs.BodyTests.{bodies_refusal, forms_refusal};
 
-// Every polynomial's terms are right and rise.
-fn polynomials_ok(n: usize, job: &[u8]) -> bool
-    requires { contents_ok n job.now ≡ true }
-    ensures { result ≡ all_from (λ k. polynomial_ok n (body job.now k)) 1 (n - 1) }
+use paper::Refusal;
+
+// Refusals 6 to 8 of n + 1 bodies of the right lengths, handed over by index: box, terms, start.
+pub fn test_forms<'a, F: Fn(usize) -> &'a [u8]>(n: usize, body: F) -> Result<(), Refusal>
+    requires axes { Axes n }
+    requires callable { (k : ℕ) → k ≤ n → F.pre body k }
+    requires bounds { (b : _) → F.post body 0 b → length b.now ≡ 4 * n }
+    requires start { (b : _) → F.post body n b → length b.now ≡ 3 * n }
+    ensures { (f : ℕ → List ℕ) → ((k : ℕ) (b : _) → k ≤ n → F.post body k b → b.now ≡ f k) → RefusedOr (forms_refusal n f) (λ _. Unit {0}) result }
 {
-    let mut k = 1;
-    while k < n {
-        if !terms::polynomial_ok(n, entries::part_of(job, k)) {
-            return false;
-        }
-        k += 1;
+    if !boxes::box_ok(n, body(0)) {
+        return Err(Refusal::Bounds);
     }
-    true
+    for k in 1..n {
+        if !terms::polynomial_ok(n, body(k)) {
+            return Err(Refusal::Terms);
+        }
+    }
+    if !places::place_ok(n, body(n)) {
+        return Err(Refusal::Start);
+    }
+    Ok(())
 }
 
 // Open's refusals 5 to 8: contents, box, terms, start.
-pub fn bodies_refusal(n: usize, job: &[u8]) -> u64
+pub fn test_bodies(n: usize, job: &[u8]) -> Result<(), Refusal>
     requires { Axes n }
-    ensures { result ≡ bodies_refusal n job.now }
+    ensures { RefusedOr (bodies_refusal n job.now) (λ _. Unit {0}) result }
 {
     if !entries::contents_ok(n, job) {
-        return 5;
+        return Err(Refusal::Contents);
     }
-    if !boxes::box_ok(n, entries::part_of(job, 0)) {
-        return 6;
-    }
-    if !polynomials_ok(n, job) {
-        return 7;
-    }
-    if !places::place_ok(n, entries::part_of(job, n)) {
-        return 8;
-    }
-    0
+    test_forms(n, |k| entries::part_of(job, k))
 }

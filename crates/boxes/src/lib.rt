@@ -15,33 +15,23 @@ fn axis_between(lowest: i64, highest: i64, b: &[u8], a: usize) -> bool
 {
     let low = read::signed_word(b, 4 * a);
     let high = read::signed_word(b, 4 * a + 2);
-    if lowest <= low {
-        if low < high {
-            return high <= highest;
-        }
-    }
-    false
+    lowest <= low && low < high && high <= highest
 }
 
+// On each axis both ends are within the limits, low under high.
 pub fn box_between(lowest: i64, highest: i64, n: usize, b: &[u8]) -> bool
     requires { length b.now ≡ 4 * n }
     ensures { result ≡ box_between lowest highest n b.now }
 {
-    let mut a = 0;
-    while a < n {
-        if !axis_between(lowest, highest, b, a) {
-            return false;
-        }
-        a += 1;
-    }
-    true
+    (0..n).all(|a| axis_between(lowest, highest, b, a))
 }
 
-// Box ends lie from the lowest to the highest coordinate.
+// The lowest and the highest coordinate of a box end.
 const LOWEST: i64 = -256;
 
 const HIGHEST: i64 = 256;
 
+// The box of a job is right.
 pub fn box_ok(n: usize, b: &[u8]) -> bool
     requires { length b.now ≡ 4 * n }
     ensures { result ≡ box_ok n b.now }

@@ -9,7 +9,7 @@ ghost use Rattle.paper.specs.Pen.{penned};
 ghost use Rattle.paper.specs.RunningSum.{running_summed};
 ghost use Rattle.grounds.specs.Judged.{judged_by};
 ghost use Rattle.small.specs.Small.{small_opened, small_traced};
-ghost use Rattle.jobnumbers.specs.Numbers.{open_numbers, body_entry, body_numbers, write_numbers, sum_numbers};
+ghost use Rattle.jobnumbers.specs.Numbers.{open_numbers, body_entry, body_numbers, write_numbers, sum_numbers, handed_in};
 ghost use Rattle.judgenumbers.specs.Numbers.{judge_numbers, ground_numbers};
 ghost use Rattle.pointnumbers.specs.Numbers.{point_numbers, is_set, pen_numbers};
 ghost use Rattle.walknumbers.specs.Numbers.{step_numbers, trace_numbers};
@@ -18,13 +18,11 @@ ghost use Rattle.nesting.specs.CutOrder.{ordered};
 ghost use Rattle.assembly.specs.Assembled.{handed};
 ghost use Rattle.assembly.specs.Written.{written, buffer_written};
 ghost use Rattle.formula.specs.Read.{formula_terms, handed_back};
-ghost use Rattle.formula.specs.Answers.{handed_as};
 ghost use Rattle.seamnumbers.specs.Numbers.{seams_numbers, order_numbers};
 
-use formula::FormulaAnswer;
-use jobnumbers::{BodyAnswer, OpenAnswer, SumAnswer, WriteAnswer};
+use jobnumbers::{BodyAnswer, FormulaAnswer, OpenAnswer, SumAnswer, WriteAnswer};
 use judgenumbers::{GroundAnswer, JudgeAnswer};
-use places::Vertex;
+use paper::Vertex;
 use pointnumbers::{PenAnswer, PointAnswer};
 use seamnumbers::{OrderAnswer, SeamsAnswer};
 use walknumbers::{StepAnswer, TraceAnswer};
@@ -34,7 +32,7 @@ use walknumbers::{StepAnswer, TraceAnswer};
 pub extern "C" fn gethwapiko_open(job: &[u8]) -> OpenAnswer
     ensures { result ≡ open_numbers (opened job.now) }
 {
-    jobnumbers::open_numbers(job::open(job))
+    OpenAnswer::from(job::open(job))
 }
 
 // Body: where in the job the body lies; it is never outside the job.
@@ -52,7 +50,7 @@ pub extern "C" fn gethwapiko_body(job: &[u8], index: u64) -> BodyAnswer
 pub extern "C" fn gethwapiko_judge(job: &[u8], place: &[u8]) -> JudgeAnswer
     ensures { result ≡ judge_numbers (judged job.now place.now) }
 {
-    judgenumbers::judge_numbers(judge::judge(job, place))
+    JudgeAnswer::from(judge::judge(job, place))
 }
 
 // Judge with its ground.
@@ -60,23 +58,25 @@ pub extern "C" fn gethwapiko_judge(job: &[u8], place: &[u8]) -> JudgeAnswer
 pub extern "C" fn gethwapiko_judge_ground(job: &[u8], place: &[u8]) -> GroundAnswer
     ensures { result ≡ ground_numbers (judged_by job.now place.now) }
 {
-    judgenumbers::ground_numbers(deciding::judge_ground(job, place))
+    GroundAnswer::from(deciding::judge_ground(job, place))
 }
 
 // Point.
+#[tactic(auto, using(crate::proofs::Padding::point_unpadded))]
 #[unsafe(no_mangle)]
 pub extern "C" fn gethwapiko_point(job: &[u8], place: &[u8]) -> PointAnswer
     ensures { result ≡ point_numbers (pointed job.now place.now) }
 {
-    pointnumbers::point_numbers(judge::point(job, place))
+    PointAnswer::from(judge::point(job, place))
 }
 
 // Step.
+#[tactic(auto, using(crate::proofs::Padding::step_unpadded))]
 #[unsafe(no_mangle)]
 pub extern "C" fn gethwapiko_step(job: &[u8], place: &[u8]) -> StepAnswer
     ensures { result ≡ step_numbers (stepped job.now place.now) }
 {
-    walknumbers::step_numbers(step::step(job, place))
+    StepAnswer::from(step::step(job, place))
 }
 
 // Trace: the places are written to the buffer from its front on; a refusal touches nothing.
@@ -85,7 +85,7 @@ pub extern "C" fn gethwapiko_trace(job: &[u8], buffer: &mut [u8]) -> TraceAnswer
     ensures answer { result ≡ trace_numbers (verdict_and_count (traced job.now (space_of job.now buffer.old))) }
     ensures written { buffer.new ≡ buffer_after (traced job.now (space_of job.now buffer.old)) buffer.old }
 {
-    walknumbers::trace_numbers(trace::trace(job, buffer))
+    TraceAnswer::from(trace::trace(job, buffer))
 }
 
 // Every seam in the box: one place for each is written to the buffer from its front on; a refusal touches nothing.
@@ -94,7 +94,7 @@ pub extern "C" fn gethwapiko_seams(job: &[u8], buffer: &mut [u8]) -> SeamsAnswer
     ensures answer { result ≡ seams_numbers (extent_and_count (seamed job.now (space_of job.now buffer.old))) }
     ensures written { buffer.new ≡ seams_after (seamed job.now (space_of job.now buffer.old)) buffer.old }
 {
-    seamnumbers::seams_numbers(scan::seams(job, buffer))
+    SeamsAnswer::from(scan::seams(job, buffer))
 }
 
 // The order of cutting: whether inner loops come before outer ones.
@@ -102,7 +102,7 @@ pub extern "C" fn gethwapiko_seams(job: &[u8], buffer: &mut [u8]) -> SeamsAnswer
 pub extern "C" fn gethwapiko_cut_order(job: &[u8], places: &[u8]) -> OrderAnswer
     ensures { result ≡ order_numbers (ordered job.now places.now) }
 {
-    seamnumbers::order_numbers(cutorder::cut_order(job, places))
+    OrderAnswer::from(cutorder::cut_order(job, places))
 }
 
 // Writing a job from loose bodies: it stands in the buffer from its front on; a refusal touches nothing.
@@ -120,7 +120,7 @@ pub extern "C" fn gethwapiko_write_job<'a>(
     ensures answer { result ≡ write_numbers (written (handed n bias bounds.now polynomial1.now polynomial2.now polynomial3.now start.now) buffer.old) }
     ensures written { buffer.new ≡ buffer_written (handed n bias bounds.now polynomial1.now polynomial2.now polynomial3.now start.now) buffer.old }
 {
-    jobnumbers::write_numbers(assemble::write_job(
+    WriteAnswer::from(assemble::write_job(
         n as usize,
         bias,
         bounds,
@@ -135,9 +135,9 @@ pub extern "C" fn gethwapiko_write_job<'a>(
 // Reading a formula.
 #[unsafe(no_mangle)]
 pub extern "C" fn gethwapiko_formula(n: u64, text: &[u8]) -> FormulaAnswer
-    ensures { handed_as result ≡ handed_back (formula_terms n text.now) }
+    ensures { handed_in result ≡ handed_back (formula_terms n text.now) }
 {
-    termlist::read_formula(n as usize, text)
+    FormulaAnswer::from(termlist::read_formula(n as usize, text))
 }
 
 // The small bench cutter's Open.
@@ -145,7 +145,7 @@ pub extern "C" fn gethwapiko_formula(n: u64, text: &[u8]) -> FormulaAnswer
 pub extern "C" fn gethwapiko_small_open(job: &[u8]) -> OpenAnswer
     ensures { result ≡ open_numbers (small_opened job.now) }
 {
-    jobnumbers::open_numbers(benchtop::open(job))
+    OpenAnswer::from(benchtop::open(job))
 }
 
 // The small bench cutter's Trace; a refusal touches nothing.
@@ -154,15 +154,16 @@ pub extern "C" fn gethwapiko_small_trace(job: &[u8], buffer: &mut [u8]) -> Trace
     ensures answer { result ≡ trace_numbers (verdict_and_count (small_traced job.now (space_of job.now buffer.old))) }
     ensures written { buffer.new ≡ buffer_after (small_traced job.now (space_of job.now buffer.old)) buffer.old }
 {
-    walknumbers::trace_numbers(benchtop::trace(job, buffer))
+    TraceAnswer::from(benchtop::trace(job, buffer))
 }
 
 // Pen: move k of a list of places; any number but 0 marks the list as closed.
+#[tactic(auto, unfolding(pointnumbers::specs::Numbers::is_set))]
 #[unsafe(no_mangle)]
 pub extern "C" fn gethwapiko_pen(job: &[u8], places: &[u8], closed: u8, k: u64) -> PenAnswer
     ensures { result ≡ pen_numbers (penned job.now places.now (is_set closed) k) }
 {
-    pointnumbers::pen_numbers(pen::pen(job, places, closed != 0, k as usize))
+    PenAnswer::from(pen::pen(job, places, closed != 0, k as usize))
 }
 
 // The running sum of a polynomial, numbered from 0, at the vertex x y z w, from its last term to its first, after so many terms.
@@ -178,6 +179,7 @@ pub extern "C" fn gethwapiko_running_sum(
 ) -> SumAnswer
     ensures { result ≡ sum_numbers (running_summed job.now polynomial (x ∷ y ∷ z ∷ w ∷ []) terms) }
 {
-    let v = Vertex { x, y, z, w };
-    jobnumbers::sum_numbers(sums::running_sum(job, polynomial as usize, v, terms as usize))
+    let coordinates = [x, y, z, w];
+    let v = Vertex { coordinates };
+    SumAnswer::from(sums::running_sum(job, polynomial as usize, v, terms as usize))
 }

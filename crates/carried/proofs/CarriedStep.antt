@@ -24,9 +24,9 @@ use Rattle.curves.proofs.Carried.{out_beyond, valid_beyond, incidence_beyond, pl
 use Rattle.paper.specs.Values.{field_of}
 use Rattle.paper.specs.Operations.{step_in}
 use Rattle.places.specs.Held.{vertex_as, facet_as, place_as}
-use Rattle.places.specs.declared.Vertex.{Vertex}
-use Rattle.places.specs.declared.HeldPlace.{HeldPlace}
-use Rattle.job.proofs.OpenJob.{job_axes}
+use Rattle.paper.specs.declared.Vertex.{Vertex}
+use Rattle.paper.specs.declared.HeldPlace.{HeldPlace}
+use Rattle.job.proofs.Opened.{job_axes}
 use Rattle.determinants.specs.Cells.{column_at, simplex_columns, facet_columns}
 use Rattle.field.specs.Put.{ValuesPut}
 use Rattle.table.specs.Table.{order_at}
@@ -37,7 +37,7 @@ use Rattle.moves.specs.Columns.{new_index, ColumnsMoved}
 use Rattle.step.specs.Held.{Held}
 use Rattle.step.specs.Ahead.{Leads}
 use Rattle.step.proofs.HeldPlaces.{next_held}
-use Rattle.step.proofs.SimplexStep.{simplex_is, job_step}
+use Rattle.step.proofs.SimplexStep.{cond_both, simplex_is, job_step}
 use Rattle.carried.specs.declared.Entered.{Entered}
 use Rattle.carried.specs.Carries.{Carries, simplex_at, new_vertex_at, Enters, Beyond}
 use Rattle.carried.proofs.PutColumn.{column_put}
@@ -53,10 +53,6 @@ unfolding place_of
 corner_of_place t =
     ap (λ (p : Place). corner_under p.facet.low t.order t.out) (place_anywhere t.corner t.order t.out)
     ∙ corner_low t.corner t.order t.out
-
--- both tests hold
-cond_both : {A : Type 0} (x y z : A) {a b : Bool} → a ≡ true → b ≡ true → cond a (cond b x y) z ≡ x
-cond_both x y z h k = rw (h, k)
 
 module _ {s : List ℕ} {n : ℕ} {here : Entered} {cells : List ℤ} (k : Carries s n here cells) {corner : Vertex}
     (c : CornerIs here.place.low (order_at n here.row) here.out corner) where
@@ -145,7 +141,7 @@ module _ {s : List ℕ} {n : ℕ} {here : Entered} {cells : List ℤ} (k : Carri
             (traceable_beyond n (field_of s) large x k.held.traceable t is_simplex
             (at_new (field_of s).in_box ∙ inside) (at_new (field_of s).readable ∙ readable))
 
-        module _ {q : Entered} (b : Beyond n corner here.row here.out here.plus w q) where
+        module _ {q : Entered} (b : Beyond n corner here w q) where
           -- what the code holds of it: the place, the vertex left out, the order
           place_is : place_as n q.place ≡ place_of there
           unfolding there t simplex_at place_of

@@ -10,7 +10,7 @@ use Rattle.curves.specs.Carried.{new_vertex}
 use Rattle.curves.proofs.OrderTests.{order_distinct}
 use Rattle.curves.proofs.Vertices.{plus_zero, vertices_masks}
 use Rattle.curves.proofs.IncidenceOk.{length_masks}
-use Rattle.places.specs.declared.Vertex.{Vertex}
+use Rattle.paper.specs.declared.Vertex.{Vertex}
 use Rattle.places.specs.Held.{vertex_as}
 use Rattle.lattice.specs.Moves.{Shifted}
 use Rattle.table.specs.Table.{InTable, order_at, vertex_mask}

@@ -1,18 +1,19 @@
 -- What the code carries along a trace, and what a step by it says.
-use Rattle.std.specs.Prelude.{ℕ, ◌≡◌, Bool, List, ℤ}
+use Rattle.std.specs.Prelude.{ℕ, ◌≡◌, List, ℤ, Result, Ok, Err}
 use Rattle.exact.specs.Sign.{sign}
 use Rattle.exact.specs.Det.{determinant}
 use Rattle.exact.specs.Compared.{sign_of, plus_across}
 use Rattle.curves.specs.Grid.{Place, Incidence, place_at, turn}
 use Rattle.curves.specs.Grid as Grid
 use Rattle.curves.specs.Walk.{stop}
-use Rattle.curves.specs.Step.{edge, limit}
 use Rattle.curves.specs.Carried.{Carried, new_vertex}
 use Rattle.paper.specs.Values.{field_of}
 use Rattle.paper.specs.Operations.{step_in}
+use Rattle.paper.specs.Answers.{stop_as}
 use Rattle.places.specs.Held.{vertex_as, place_as}
-use Rattle.places.specs.declared.Vertex.{Vertex}
-use Rattle.places.specs.declared.HeldPlace.{HeldPlace}
+use Rattle.paper.specs.declared.Vertex.{Vertex}
+use Rattle.paper.specs.declared.HeldPlace.{HeldPlace}
+use Rattle.paper.specs.declared.Stop.{Stop}
 use Rattle.determinants.specs.Cells.{Cells, simplex_columns, facet_columns}
 use Rattle.table.specs.Table.{order_at, NeighbourRow}
 use Rattle.sides.specs.Corners.{PlaceIs}
@@ -21,7 +22,6 @@ use Rattle.moves.specs.Columns.{new_index, ColumnsMoved}
 use Rattle.step.specs.Held.{Held}
 use Rattle.step.specs.Ahead.{Leads}
 use Rattle.carried.specs.declared.Entered.{Entered}
-use Rattle.carried.specs.declared.Ahead as Code
 
 -- what is carried at a place that Step does not refuse: the row and the vertex left out are those of the simplex on its side, and the cells
 -- hold, for each vertex of the facet, the values of the job there: the sum of each polynomial, and then the bias
@@ -45,15 +45,14 @@ pub record Enters (n : ℕ) (p : HeldPlace) (before after : List ℤ) (r : Enter
   pub moved : ColumnsMoved n n r.out before after
   pub signed : sign (determinant n (facet_columns n before n)) ≡ sign_of r.plus
 
--- the place on the other side of the facet without vertex e
-pub record Beyond (n : ℕ) (corner : Vertex) (row out : ℕ) (plus : Bool) (e : ℕ) (r : Entered) : Type 0 where
-  pub is_place : PlaceIs n corner row e (turn (place_at (vertex_as n corner) (order_at n row) e)) r.place
-  pub is_row : NeighbourRow n row e r.row
+-- the place on the other side of the facet without vertex e of the simplex that was entered
+pub record Beyond (n : ℕ) (corner : Vertex) (here : Entered) (e : ℕ) (r : Entered) : Type 0 where
+  pub is_place : PlaceIs n corner here.row e (turn (place_at (vertex_as n corner) (order_at n here.row) e)) r.place
+  pub is_row : NeighbourRow n here.row e r.row
   pub is_out : r.out ≡ new_index n e
-  pub is_plus : r.plus ≡ plus_across plus out e
+  pub is_plus : r.plus ≡ plus_across here.plus here.out e
 
 -- the step is the answer: edge, limit, or the next place, with what is carried there
-abbrev pub AheadIs : List ℕ → ℕ → Place → Code.Ahead → List ℤ → Type 0
-AheadIs s n x Code.TheVariants.Edge cells = step_in s x ≡ stop edge
-AheadIs s n x Code.TheVariants.Limit cells = step_in s x ≡ stop limit
-AheadIs s n x (Code.TheVariants.Next q) cells = Leads s n x q.place × Carries s n q cells
+abbrev pub AheadIs : List ℕ → ℕ → Place → Result Entered Stop → List ℤ → Type 0
+AheadIs s n x (Err w) cells = step_in s x ≡ stop (stop_as w)
+AheadIs s n x (Ok q) cells = Leads s n x q.place × Carries s n q cells

@@ -13,7 +13,8 @@ ghost use Rattle.determinants.specs.Cells.{Cells, facet_columns};
 ghost use Rattle.table.specs.Table.{InTable, MasksAre};
 ghost use Rattle.carried.specs.Carries.{new_vertex_at, Enters, Beyond, Carries, AheadIs};
 
-use places::{HeldPlace, Vertex};
+use job::OpenJob;
+use paper::{HeldPlace, Stop, Vertex};
 use simplices::{corners, search};
 
 // A place with the simplex on its side: the row of its order, the vertex that the facet leaves out, and whether the determinant of the
@@ -26,14 +27,6 @@ pub struct Entered {
     pub plus: bool,
 }
 
-// What lies ahead of a place: a vertex outside the box, a value that is not readable, or the next place.
-#[derive(Clone, Copy)]
-pub enum Ahead {
-    Edge,
-    Limit,
-    Next(Entered),
-}
-
 // The simplex on the side of a crossed place. The cells hold the facet's columns; they go where the simplex has its vertices.
 pub fn enter(n: usize, p: HeldPlace, cells: &mut [i64; 15]) -> Entered
     requires n_value { (dimension_ok n ≡ true) × (place_ok n (place_as n p) ≡ true) }
@@ -41,14 +34,12 @@ pub fn enter(n: usize, p: HeldPlace, cells: &mut [i64; 15]) -> Entered
     ensures { Enters n p cells.old cells.new result }
 {
     let found = search::find(n, p);
-    let row = found.row;
-    let out = found.out;
     let plus = determinants::determinant(n, cells, n) > 0;
-    moves::make_room(n, cells, out);
+    moves::make_room(n, cells, found.out);
     Entered {
         place: p,
-        row,
-        out,
+        row: found.row,
+        out: found.out,
         plus,
     }
 }
@@ -61,48 +52,40 @@ fn new_vertex(corner: Vertex, masks: u16, out: usize) -> Vertex
     lattice::shifted(corner, table::digit(masks, out))
 }
 
-// The place on the other side of the facet without vertex e, with the simplex there.
-fn beyond(
-    n: usize,
-    corner: Vertex,
-    row: usize,
-    masks: u16,
-    out: usize,
-    plus: bool,
-    e: usize,
-) -> Entered
-    requires in_table { (InTable n row) × (MasksAre n row masks) }
-    requires out_le_n { (out ≤ n) × ((e ≤ n) × (VertexSize move_limit corner)) }
-    ensures { Beyond n corner row out plus e result }
-{
-    let odd = (out + e) % 2 == 1;
-    Entered {
-        place: corners::next(n, corner, masks, e),
-        row: neighbour::neighbour(n, row, e),
-        out: moves::new_index(n, e),
-        plus: plus == odd,
+impl Entered {
+    // The place on the other side of the facet without vertex e of the simplex here, with the simplex there.
+    fn beyond(self, n: usize, corner: Vertex, masks: u16, e: usize) -> Entered
+        requires in_table { (InTable n self.row) × (MasksAre n self.row masks) }
+        requires out_le_n { (self.out ≤ n) × ((e ≤ n) × (VertexSize move_limit corner)) }
+        ensures { Beyond n corner self e result }
+    {
+        let odd = (self.out + e) % 2 == 1;
+        Entered {
+            place: corners::next(n, corner, masks, e),
+            row: neighbour::neighbour(n, self.row, e),
+            out: moves::new_index(n, e),
+            plus: self.plus == odd,
+        }
     }
 }
 
 // Edge if the new vertex lies outside the box, limit if it is in the box and not readable, else the place of the other crossed facet, its
 // side leading onward, and what is carried there.
-pub fn onward(job: &[u8], n: usize, here: Entered, cells: &mut [i64; 15]) -> Ahead
-    requires { Carries job.now n here cells.old }
-    ensures { AheadIs job.now n (place_as n here.place) result cells.new }
+pub fn onward(job: OpenJob<'_>, here: Entered, cells: &mut [i64; 15]) -> Result<Entered, Stop>
+    requires { Carries job.bytes.now job.n here cells.old }
+    ensures { AheadIs job.entry.bytes.now job.entry.n (place_as job.entry.n here.place) result cells.new }
 {
-    let row = here.row;
-    let out = here.out;
-    let plus = here.plus;
-    let masks = table::vertex_masks(n, row);
-    let corner = corners::corner_of(here.place, masks, out);
-    let v = new_vertex(corner, masks, out);
-    if !field::vertex_inside(job, n, v) {
-        return Ahead::Edge;
+    let n = job.n;
+    let masks = table::vertex_masks(n, here.row);
+    let corner = corners::corner_of(here.place, masks, here.out);
+    let v = new_vertex(corner, masks, here.out);
+    if !field::vertex_inside(job, v) {
+        return Err(Stop::Edge);
     }
-    if !field::put_values(job, n, v, out, cells) {
-        return Ahead::Limit;
+    if !field::put_values(job, v, here.out, cells) {
+        return Err(Stop::Limit);
     }
-    let exit = compared::exit(n, cells, plus, out);
+    let exit = compared::exit(n, cells, here.plus, here.out);
     moves::move_columns(n, cells, exit);
-    Ahead::Next(beyond(n, corner, row, masks, out, plus, exit))
+    Ok(here.beyond(n, corner, masks, exit))
 }

@@ -15,7 +15,7 @@ use Rattle.paper.specs.Job.{all_from}
 use Rattle.paper.proofs.Tests.{all_at}
 use Rattle.bits.specs.Axes.{Axes}
 use Rattle.bits.proofs.EachDimension.{each_axes}
-use Rattle.chains.specs.Chains.{chain_array, first_chain, chain_word, chain_of}
+use Rattle.chains.specs.Chains.{chain_array, first_chain, chain_word, digits, chain_of}
 
 -- how many chains there are
 unfoldable pub chain_count : ℕ → ℕ
@@ -26,11 +26,8 @@ unfolding chains keep pairs lists_under count_from chain holds chain_count
 chains_counted = each_axes (λ n. length (chains n) ≡ chain_count n) refl refl refl
 
 pub chains_tabled : (n : ℕ) → Axes n → chains n ≡ map (λ j. chain_of n (chain_word n j)) (count_from 0 (chain_count n))
-unfolding chains keep pairs lists_under count_from chain holds chain_count chain_of chain_word first_chain chain_array
+unfolding chains keep pairs lists_under count_from chain holds chain_count chain_of digits chain_word first_chain chain_array
 chains_tabled = each_axes (λ n. chains n ≡ map (λ j. chain_of n (chain_word n j)) (count_from 0 (chain_count n))) refl refl refl
-
-pub four_left : (n : ℕ) → Axes n → (n ≡ 2 → ⊥) → (n ≡ 3 → ⊥) → n ≡ 4
-four_left n a h k = omega (arith, a.low, a.high)
 
 pub few_chains : (n : ℕ) → Axes n → chain_count n ≤ 60
 unfolding chain_count
@@ -57,9 +54,9 @@ module _ (n : ℕ) (a : Axes n) (j : ℕ) (l : j < chain_count n) where
       ltb-true (first_chain n + j) 75
       (all_at (in_array n) 0 (chain_count n) j (each_axes (λ n. all_from (in_array n) 0 (chain_count n) ≡ true) refl refl refl n a) (omega arith) (omega arith))
 
-  digits : digits_under n (chain_word n j) ≡ true
+  digits_lem : digits_under n (chain_word n j) ≡ true
   unfolding digits_under all_from first_chain chain_count chain_word chain_array
-  digits =
+  digits_lem =
       all_at (λ j. digits_under n (chain_word n j)) 0 (chain_count n) j
       (each_axes (λ n. all_from (λ j. digits_under n (chain_word n j)) 0 (chain_count n) ≡ true) refl refl refl n a) (omega arith) (omega arith)
 
@@ -67,8 +64,8 @@ module _ (n : ℕ) (a : Axes n) (j : ℕ) (l : j < chain_count n) where
   unfolding digits_under
   digits_under_lem =
       let w = chain_word n j in
-      let r = and_right (ltb (w / 256) (2 ^ n)) (ltb (w / 16 % 16) (2 ^ n) && ltb (w % 16) (2 ^ n)) digits in (
-        ltb-true (w / 256) (2 ^ n) (and_left (ltb (w / 256) (2 ^ n)) (ltb (w / 16 % 16) (2 ^ n) && ltb (w % 16) (2 ^ n)) digits),
+      let r = and_right (ltb (w / 256) (2 ^ n)) (ltb (w / 16 % 16) (2 ^ n) && ltb (w % 16) (2 ^ n)) digits_lem in (
+        ltb-true (w / 256) (2 ^ n) (and_left (ltb (w / 256) (2 ^ n)) (ltb (w / 16 % 16) (2 ^ n) && ltb (w % 16) (2 ^ n)) digits_lem),
         (
           ltb-true (w / 16 % 16) (2 ^ n) (and_left (ltb (w / 16 % 16) (2 ^ n)) (ltb (w % 16) (2 ^ n)) r),
           ltb-true (w % 16) (2 ^ n) (and_right (ltb (w / 16 % 16) (2 ^ n)) (ltb (w % 16) (2 ^ n)) r),
@@ -76,7 +73,7 @@ module _ (n : ℕ) (a : Axes n) (j : ℕ) (l : j < chain_count n) where
       )
 
   pub chain_formed : (eqb (suc (length (chain_of n (chain_word n j)))) n && chain n 0 (chain_of n (chain_word n j))) ≡ true
-  unfolding is_chain all_from first_chain chain_count chain_word chain_array chain_of chain holds
+  unfolding is_chain all_from first_chain chain_count chain_word chain_array chain_of digits chain holds
   chain_formed =
       all_at (λ j. is_chain n (chain_word n j)) 0 (chain_count n) j
       (each_axes (λ n. all_from (λ j. is_chain n (chain_word n j)) 0 (chain_count n) ≡ true) refl refl refl n a) (omega arith) (omega arith)

@@ -2,8 +2,8 @@
 use Rattle.std.specs.Prelude.{ℕ, ◌+◌, ◌-◌, ◌/◌, ◌%◌, ◌≡◌, cond, List, [], ◌∷◌, get_or, take, eqb}
 use Rattle.curves.specs.Grid.{Facet}
 use Rattle.curves.specs.Grid as Grid
-use Rattle.places.specs.declared.Vertex.{Vertex}
-use Rattle.places.specs.declared.HeldPlace.{HeldPlace}
+use Rattle.paper.specs.declared.Vertex.{Vertex}
+use Rattle.paper.specs.declared.HeldPlace.{HeldPlace}
 use Rattle.places.specs.Held.{vertex_as, facet_as}
 
 unfoldable pub chain_array : List ℕ
@@ -26,9 +26,13 @@ first_chain n = cond (eqb n 2) 0 (cond (eqb n 3) 3 15)
 unfoldable pub chain_word : ℕ → ℕ → ℕ
 chain_word n j = get_or chain_array (first_chain n + j) 0
 
+-- the three digits of an entry
+unfoldable pub digits : ℕ → List ℕ
+digits w = w / 256 ∷ w / 16 % 16 ∷ w % 16 ∷ []
+
 -- the first n − 1 digits
 unfoldable pub chain_of : ℕ → ℕ → List ℕ
-chain_of n w = take (n - 1) (w / 256 ∷ w / 16 % 16 ∷ w % 16 ∷ [])
+chain_of n w = take (n - 1) (digits w)
 
 -- the facet with a lowest vertex and a chain
 unfoldable pub facet_on : Grid.Vertex → List ℕ → Facet
@@ -38,7 +42,5 @@ facet_on v ms = record { low = v; masks = ms }
 pub record PlaceOn (v : Vertex) (w : ℕ) (p : HeldPlace) : Type 0 where
   pub facet : (n : ℕ) → facet_as n p ≡ facet_on (vertex_as n v) (chain_of n w)
   pub low : p.low ≡ v
-  pub mask1 : p.mask1 ≡ w / 256
-  pub mask2 : p.mask2 ≡ w / 16 % 16
-  pub mask3 : p.mask3 ≡ w % 16
+  pub masks : p.masks ≡ digits w
   pub side : p.side ≡ 0

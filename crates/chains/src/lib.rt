@@ -7,7 +7,7 @@ ghost use Rattle.curves.specs.Box.{chains};
 ghost use Rattle.bits.specs.Axes.{Axes};
 ghost use Rattle.chains.specs.Chains.{chain_array, first_chain, PlaceOn};
 
-use places::{HeldPlace, Vertex};
+use paper::{HeldPlace, Vertex};
 
 // Each chain in rising order, its first mask on the left; where it has no further mask, 0.
 const CHAINS: [u16; 75] = [
@@ -19,7 +19,7 @@ const CHAINS: [u16; 75] = [
     0x8CE, 0x8CF, 0x8DF, 0x8EF, 0x9BF, 0x9DF, 0xABF, 0xAEF, 0xCDF, 0xCEF,
 ];
 
-// The table. It is copied, so once for a whole scan.
+// The table, as an array that a whole scan goes over.
 pub fn table() -> [u16; 75]
     ensures { result ≡ chain_array }
 {
@@ -31,13 +31,11 @@ pub fn first(n: usize) -> usize
     requires { Axes n }
     ensures { result ≡ first_chain n }
 {
-    if n == 2 {
-        return 0;
+    match n {
+        2 => 0,
+        3 => 3,
+        _ => 15,
     }
-    if n == 3 {
-        return 3;
-    }
-    15
 }
 
 // How many there are.
@@ -45,25 +43,21 @@ pub fn count(n: usize) -> usize
     requires { Axes n }
     ensures { result ≡ length (chains n) }
 {
-    if n == 2 {
-        return 3;
+    match n {
+        2 => 3,
+        3 => 12,
+        _ => 60,
     }
-    if n == 3 {
-        return 12;
-    }
-    60
 }
 
 // The facet with a lowest vertex and a chain, with side 0.
 pub fn place_on(v: Vertex, chain: u16) -> HeldPlace
     ensures { PlaceOn v chain result }
 {
-    let word = chain as u64;
+    let word = u64::from(chain);
     HeldPlace {
         low: v,
-        mask1: word / 256,
-        mask2: word / 16 % 16,
-        mask3: word % 16,
+        masks: [word / 256, word / 16 % 16, word % 16],
         side: 0,
     }
 }

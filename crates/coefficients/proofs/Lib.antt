@@ -1,5 +1,5 @@
--- Laws that the proofs of the functions cite, a file for each idea.
-pub mod Limits
+-- Laws of the proofs.
+pub mod CellsMade
 pub mod CellsPut
-pub mod SumOrDifference
-pub mod Results
+pub mod Limits
+pub mod Powers

@@ -1,31 +1,30 @@
 -- The sign of a pair of vertices, by its coefficients: what each test of the code says of it.
-use Prim.Native.Nat.{ℕ, suc, zero, ◌+◌, ◌-◌, ◌%◌, ◌≤◌, ◌<◌}
+use Prim.Native.Nat.{ℕ, suc, ◌+◌, ◌-◌, ◌%◌, ◌≤◌, ◌<◌}
 use native.Mathlib.Omega.{arith}
-use mathlib.Core.Path.{◌≡◌, refl, sym, ap, ◌∙◌, subst}
+use mathlib.Core.Path.{◌≡◌, sym, ap, ◌∙◌, subst}
 use mathlib.Core.Bool.{Bool, true, false, cond, beq}
 use mathlib.Core.List.{List, [], ◌∷◌}
-use lib.IntN.{ℤ, pos, negsuc, ◌-ℤ◌}
+use lib.IntN.{ℤ, pos}
 use lib.Dec.{eqb, lit≤}
 use lib.Signed.{lt_z}
+use Rattle.std.specs.declared.cmp.Ordering.TheVariants.{Less, Equal, Greater}
 use mir.Syntax.{w64}
 use mir.Val.{SFits}
-use Rattle.exact.specs.Int.{neg, 0ℤ}
-use Rattle.exact.specs.Size.{Size, Is}
-use Rattle.exact.specs.Sign.{Sign, positive, nought, negative, sign, lex_sign}
+use Rattle.exact.specs.Size.{Is}
+use Rattle.exact.specs.Sign.{Sign, positive, nought, negative, sign, lex_sign, same_sign}
 use Rattle.exact.specs.Det.{Column, det, rows_from}
 use Rattle.exact.specs.Crossed.{coefficient, coefficients, remove}
 use Rattle.exact.specs.Minors.{position, skip, alternate}
 use Rattle.exact.specs.Compared.{above, pair_sign, stays, kept_from, compared_exit}
-use Rattle.exact.proofs.Ring.{sub_eq, zero-add}
-use Rattle.exact.proofs.Bits.{holds_call, is_size, back, fits_sub, holds_sub}
-use Rattle.exact.proofs.SizeLaws.{size_pos, size_neg, size_weaken, size_fits_64}
-use Rattle.exact.proofs.Cofactor.{coefficient_minor, alternate_even, alternate_odd}
+use Rattle.exact.proofs.Bits.{is_size, back}
+use Rattle.exact.proofs.SizeLaws.{size_weaken, size_fits_64}
+use Rattle.exact.proofs.Cofactor.{coefficient_minor, alternate_even}
 use Rattle.exact.proofs.PairSigns.{position_later}
 use Rattle.exact.proofs.ExitCompared.{skip_next, cond_holds}
 use Rattle.determinants.specs.Cells.{Cells, simplex_columns, facet_columns}
 use Rattle.determinants.specs.Entries.{coefficient_limit}
-use Rattle.facets.specs.Signs.{sign_number}
-use Rattle.facets.proofs.SignNumber.{number_above, number_below, number_nought, number_zero, zero_number}
+use Rattle.facets.specs.Signs.{sign_as}
+use Rattle.facets.proofs.SignOrder.{tested_positive, tested_negative, tested_nought}
 use Rattle.facets.proofs.CrossedWalk.{left_at, left_begin, left_passed, left_found, left_none}
 
 -- the columns that a pair's coefficients are of: a vertex, then those of the facet without q but for vertex i
@@ -39,59 +38,46 @@ module _ {n : ℕ} {cells : List ℤ} {q i j : ℕ} (pre : Cells n cells × ((q 
   abbrev minor : ℤ
   minor = det (remove j (rows_from 0 n)) (remove i (facet_columns n cells q))
 
-  is_minor : coefficient n (before n cells q i) 0 j ≡ alternate j minor
+  is_minor : alternate j m ≡ coefficient n (before n cells q i) 0 j
   unfolding alternate remove
-  is_minor = coefficient_minor n (before n cells q i) 0 j (omega arith) pre.1.1.1
+  is_minor = ap (alternate j) e.is ∙ sym (coefficient_minor n (before n cells q i) 0 j (omega arith) pre.1.1.1)
 
-  pub pair_even : j % 2 ≡ 0 → Is coefficient_limit (coefficient n (before n cells q i) 0 j) (back m)
-  pair_even even = subst (λ z. Is coefficient_limit z (back m)) (sym (is_minor ∙ alternate_even j minor even)) (holds_call e (lit≤ tt))
+  pub pair_cofactor : {z : ℤ} → Is coefficient_limit (alternate j m) z → Is coefficient_limit (coefficient n (before n cells q i) 0 j) z
+  pair_cofactor {z} a = subst (λ x. Is coefficient_limit x z) is_minor a
 
   -- of power 0 it is the minor
   pub pair_first : j ≡ 0 → Is coefficient_limit (coefficient n (before n cells q i) 0 j) m
   pair_first z =
       let even : j % 2 ≡ 0 = omega arith in
-      subst (λ x. Is coefficient_limit x m) (sym (is_minor ∙ alternate_even j minor even)) e
+      subst (λ x. Is coefficient_limit x m) (sym (alternate_even j minor even) ∙ ap (alternate j) (sym e.is) ∙ is_minor) e
 
-  none : Is 0 0ℤ (pos 0)
-  none = record { is = refl; size = size_pos 0 }
+-- ---- the sign of a coefficient, by the tests of its number
 
-  pub pair_fits : SFits w64 (pos 0 -ℤ back m)
-  pair_fits = fits_sub none (holds_call e (lit≤ tt)) (lit≤ tt)
-
-  pub pair_odd : (j % 2 ≡ 0 → ⊥) → Is coefficient_limit (coefficient n (before n cells q i) 0 j) (back (pos 0 -ℤ back m))
-  pair_odd odd = record {
-    is = (holds_sub none (holds_call e (lit≤ tt)) (lit≤ tt)).is
-        ∙ sub_eq 0ℤ minor ∙ zero-add (neg minor) ∙ sym (is_minor ∙ alternate_odd j minor odd);
-    size = subst (Size coefficient_limit) (sym (is_minor ∙ alternate_odd j minor odd)) (size_neg e.size);
-  }
-
--- ---- the tests of a coefficient
-
--- the number of the sign of a coefficient, by the two tests
 module _ {x z : ℤ} (e : Is coefficient_limit x z) where
   fits : SFits w64 z
   fits = size_fits_64 (size_weaken (is_size e) (lit≤ tt))
 
-  tested_above : lt_z (pos 0) (back z) ≡ true → 1 ≡ sign_number (sign x)
-  tested_above h = number_above z fits h ∙ ap (λ y. sign_number (sign y)) e.is
+  pub sign_above : lt_z (pos 0) (back z) ≡ true → sign x ≡ positive
+  sign_above h = ap sign (sym e.is) ∙ tested_positive z fits h
 
-  tested_below : lt_z (back z) (pos 0) ≡ true → 2 ≡ sign_number (sign x)
-  tested_below h = number_below z fits h ∙ ap (λ y. sign_number (sign y)) e.is
+  pub sign_below : lt_z (back z) (pos 0) ≡ true → sign x ≡ negative
+  sign_below h = ap sign (sym e.is) ∙ tested_negative z fits h
 
-  tested_nought : lt_z (pos 0) (back z) ≡ false → lt_z (back z) (pos 0) ≡ false → 0 ≡ sign_number (sign x)
-  tested_nought h k = number_nought z fits h k ∙ ap (λ y. sign_number (sign y)) e.is
+  pub sign_neither : lt_z (pos 0) (back z) ≡ false → lt_z (back z) (pos 0) ≡ false → sign x ≡ nought
+  sign_neither h k = ap sign (sym e.is) ∙ tested_nought z fits h k
 
-above_one : (s : Sign) → 1 ≡ sign_number s → true ≡ above s
-unfolding sign_number above
-above_one negative h = cc
-above_one nought h = cc
-above_one positive h = refl
+-- by its order
+pub greater_above : {s : Sign} → sign_as Greater ≡ s → s ≡ positive
+unfolding sign_as
+greater_above h = sym h
 
-above_two : (s : Sign) → 2 ≡ sign_number s → false ≡ above s
-unfolding sign_number above
-above_two negative h = refl
-above_two nought h = cc
-above_two positive h = cc
+pub less_below : {s : Sign} → sign_as Less ≡ s → s ≡ negative
+unfolding sign_as
+less_below h = sym h
+
+pub equal_nought : {s : Sign} → sign_as Equal ≡ s → s ≡ nought
+unfolding sign_as
+equal_nought h = sym h
 
 -- ---- the sign of a pair, after the powers before j were passed
 
@@ -113,23 +99,22 @@ module _ (n : ℕ) (cells : List ℤ) (q r : ℕ) (l : q < r) where
   pub passed_begin : Passed 0
   passed_begin = left_begin n pair 0
 
-  pub passed_zero : (j : ℕ) → j < n → Passed j → coefficient n pair 0 j ≡ 0ℤ → Passed (j + 1)
-  passed_zero j h p z = p ∙ left_passed n pair 0 j h (zero_number _ z)
+  pub passed_nought : (j : ℕ) → j < n → Passed j → sign (coefficient n pair 0 j) ≡ nought → Passed (j + 1)
+  unfolding same_sign
+  passed_nought j h p z = p ∙ left_passed n pair 0 j h (ap (λ s. same_sign s nought) z)
 
-  -- at power j, by the tests of the coefficient
-  module _ (j : ℕ) (h : j < n) (p : Passed j) {z : ℤ} (e : Is coefficient_limit (coefficient n pair 0 j) z) where
-    pub found_above : lt_z (pos 0) (back z) ≡ true → true ≡ above (pair_sign n (simplex_columns n cells) q r)
-    found_above t =
-        let one = tested_above e t in
-        above_one _ one ∙ ap above (sym (pair_is ∙ p ∙ left_found n pair 0 j h (λ k. let w : 1 ≡ 0 = one ∙ k in absurd (omega arith))))
+  -- at power j, by the sign of the coefficient
+  module _ (j : ℕ) (h : j < n) (p : Passed j) where
+    found : same_sign (sign (coefficient n pair 0 j)) nought ≡ false → above (sign (coefficient n pair 0 j)) ≡ above (pair_sign n (simplex_columns n cells) q r)
+    found d = ap above (sym (pair_is ∙ p ∙ left_found n pair 0 j h d))
 
-    pub found_below : lt_z (back z) (pos 0) ≡ true → false ≡ above (pair_sign n (simplex_columns n cells) q r)
-    found_below t =
-        let two = tested_below e t in
-        above_two _ two ∙ ap above (sym (pair_is ∙ p ∙ left_found n pair 0 j h (λ k. let w : 2 ≡ 0 = two ∙ k in absurd (omega arith))))
+    pub found_above : sign (coefficient n pair 0 j) ≡ positive → true ≡ above (pair_sign n (simplex_columns n cells) q r)
+    unfolding above same_sign
+    found_above e = sym (ap above e) ∙ found (ap (λ s. same_sign s nought) e)
 
-    pub found_zero : lt_z (pos 0) (back z) ≡ false → lt_z (back z) (pos 0) ≡ false → coefficient n pair 0 j ≡ 0ℤ
-    found_zero t u = number_zero _ (sym (tested_nought e t u))
+    pub found_below : sign (coefficient n pair 0 j) ≡ negative → false ≡ above (pair_sign n (simplex_columns n cells) q r)
+    unfolding above same_sign
+    found_below e = sym (ap above e) ∙ found (ap (λ s. same_sign s nought) e)
 
   pub found_none : (j : ℕ) → n ≤ j → Passed j → false ≡ above (pair_sign n (simplex_columns n cells) q r)
   unfolding above

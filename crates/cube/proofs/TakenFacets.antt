@@ -1,14 +1,14 @@
 -- A facet taken from the cube above its lowest vertex: corner after corner, up to the first that is not known.
-use mathlib.Core.Path.{◌≡◌, refl, sym, ap, ap₂, subst, ◌∙◌}
+use mathlib.Core.Path.{◌≡◌, refl, sym, ap, ◌∙◌}
 use mathlib.Core.Bool.{Bool, true, false, ◌&&◌, false≢true}
 use mathlib.Core.List.{List, [], ◌∷◌, map}
-use Prim.Native.Nat.{ℕ, zero, suc, ◌+◌, ◌*◌, ◌-◌, ◌^◌, ◌≤◌, ◌<◌}
+use Prim.Native.Nat.{ℕ, zero, suc, ◌+◌, ◌^◌, ◌≤◌, ◌<◌}
 use native.Mathlib.Omega.{arith}
 use lib.IntN.{ℤ}
 use lib.Dec.{lit≤}
-use lib.ListN.{length, get_or}
+use lib.ListN.{get_or, take}
+use Rattle.std.proofs.lemmas.List.{get_or-take, length-take-le}
 use borrow.Author.Count.{below_none, below_more}
-use Rattle.exact.specs.Int.{0ℤ}
 use Rattle.exact.specs.Crossed.{count_from}
 use Rattle.curves.specs.Grid.{plus, facet_vertices}
 use Rattle.curves.specs.Grid as Grid
@@ -17,26 +17,22 @@ use Rattle.paper.specs.Values.{field_of}
 use Rattle.paper.proofs.Tests.{every_all}
 use Rattle.bits.specs.Axes.{Axes}
 use Rattle.bits.proofs.EachDimension.{each_axes}
-use Rattle.places.specs.declared.HeldPlace.{HeldPlace}
+use Rattle.paper.specs.declared.HeldPlace.{HeldPlace}
 use Rattle.places.specs.Held.{vertex_as, facet_as}
-use Rattle.determinants.specs.Cells.{column_at, facet_columns, Cells}
-use Rattle.columns.specs.Vertices.{mask_at, vertex_at, vertex_list}
+use Rattle.determinants.specs.Cells.{column_at, Cells}
+use Rattle.columns.proofs.PutColumns.{vertex_of, by_index}
 use Rattle.field.proofs.Counted.{every_fails, same_each, map_map}
 use Rattle.columns.proofs.FacetColumns.{facet_columns_lem, facet_list}
-use Rattle.cube.specs.Cube.{Within, ValuesCopied, known_at, Cube, MasksUnder, FacetTaken}
+use Rattle.cube.specs.Cube.{ValuesCopied, known_at, Cube, MasksUnder, FacetTaken}
 use Rattle.cube.proofs.Corners.{column_kept}
 
 -- the mask of vertex k
 abbrev pub mask_of : HeldPlace → ℕ → ℕ
-mask_of p k = mask_at p.mask1 p.mask2 p.mask3 0 k
+mask_of p k = get_or (0 ∷ p.masks) k 0
 
-pub mask_under : {n : ℕ} {p : HeldPlace} → Axes n → MasksUnder n p → (k : ℕ) → k < 4 → mask_of p k < 2 ^ n
-unfolding mask_at
-mask_under {n} a h zero l = each_axes (λ n. 0 < 2 ^ n) (lit≤ tt) (lit≤ tt) (lit≤ tt) n a
-mask_under a h (suc zero) l = h.mask1
-mask_under a h (suc (suc zero)) l = h.mask2
-mask_under a h (suc (suc (suc zero))) l = h.mask3
-mask_under a h (suc (suc (suc (suc k)))) l = absurd (omega arith)
+pub mask_under : {n : ℕ} {p : HeldPlace} → Axes n → MasksUnder n p → (k : ℕ) → mask_of p k < 2 ^ n
+mask_under {n} a h zero = each_axes (λ n. 0 < 2 ^ n) (lit≤ tt) (lit≤ tt) (lit≤ tt) n a
+mask_under a h (suc k) = h.each k
 
 -- the columns of the first k vertices are taken
 pub record Taking (n : ℕ) (p : HeldPlace) (values : List ℤ) (known : List Bool) (k : ℕ) (cells : List ℤ) : Type 0 where
@@ -77,35 +73,40 @@ module _ {s : List ℕ} {n : ℕ} {p : HeldPlace} {values : List ℤ} {known : L
     (c : Cube s n (vertex_as n p.low) values known one) where
   -- vertex k of the facet
   abbrev pub vertex : ℕ → Grid.Vertex
-  vertex k = vertex_at n p.low p.mask1 p.mask2 p.mask3 0 k
+  vertex k = plus (vertex_as n p.low) (mask_of p k)
 
-  pub known_is : (k : ℕ) → k < 4 → get_or known (mask_of p k) false ≡ known_at s (vertex k)
-  unfolding vertex_at
-  known_is k l = (c.corner (mask_of p k) (mask_under a u k l)).test
+  pub known_is : (k : ℕ) → get_or known (mask_of p k) false ≡ known_at s (vertex k)
+  known_is k = (c.corner (mask_of p k) (mask_under a u k)).test
 
-  pub all_known : every (known_at s) (vertex_list n p.low p.mask1 p.mask2 p.mask3 0 n) ≡ readable_all (field_of s) (facet_vertices (facet_as n p))
+  -- the vertices by their index
+  pub of_facet : map vertex (count_from 0 n) ≡ facet_vertices (facet_as n p)
+  of_facet =
+      let ms = take n (0 ∷ p.masks) in
+      same_each vertex (vertex_of n p.low ms) n (λ q l. ap (plus (vertex_as n p.low)) (sym (get_or-take n (0 ∷ p.masks) q 0 l)))
+      ∙ ap (λ (m : ℕ). map (vertex_of n p.low ms) (count_from 0 m)) (sym (length-take-le n (0 ∷ p.masks) (omega (arith, u.count, a.high))))
+      ∙ by_index n p.low ms ∙ facet_list n a p
+
+  pub all_known : every (known_at s) (map vertex (count_from 0 n)) ≡ readable_all (field_of s) (facet_vertices (facet_as n p))
   unfolding known_at
-  all_known = ap (every (known_at s)) (facet_list n a p 0) ∙ every_both (field_of s) (facet_vertices (facet_as n p))
+  all_known = ap (every (known_at s)) of_facet ∙ every_both (field_of s) (facet_vertices (facet_as n p))
 
   pub taking_fails : {cells : List ℤ} (k : ℕ) {m : ℕ} → k < n → m ≡ mask_of p k → get_or known m false ≡ false → Taking n p values known k cells
       → FacetTaken s n (facet_as n p) false cells
-  unfolding vertex_list
   taking_fails k l e h g = record {
-    test =
-        sym (every_fails (known_at s) vertex n k l (sym (known_is k (omega (arith, a.high))) ∙ ap (λ m. get_or known m false) (sym e) ∙ h)) ∙ all_known;
+    test = sym (every_fails (known_at s) vertex n k l (sym (known_is k) ∙ ap (λ m. get_or known m false) (sym e) ∙ h)) ∙ all_known;
     within = g.within;
     columns = λ z. absurd (false≢true z);
   }
 
   pub taking_all : {cells : List ℤ} (k : ℕ) → n ≤ k → k ≤ n → Taking n p values known k cells → FacetTaken s n (facet_as n p) true cells
-  unfolding vertex_list columns vertex_at
+  unfolding columns
   taking_all {cells} k l m g = record {
-    test = sym (every_all (known_at s) vertex n (λ q b. sym (known_is q (omega (arith, a.high))) ∙ g.tests q (omega arith))) ∙ all_known;
+    test = sym (every_all (known_at s) vertex n (λ q b. sym (known_is q) ∙ g.tests q (omega arith))) ∙ all_known;
     within = g.within;
     columns = λ z.
         facet_columns_lem n cells
         ∙ same_each (column_at n cells) (λ q. column (field_of s) (vertex q)) n
-        (λ q b. g.taken q (omega arith) ∙ (c.corner (mask_of p q) (mask_under a u q (omega (arith, a.high)))).column (g.tests q (omega arith)))
+        (λ q b. g.taken q (omega arith) ∙ (c.corner (mask_of p q) (mask_under a u q)).column (g.tests q (omega arith)))
         ∙ sym (map_map (column (field_of s)) vertex (count_from 0 n))
-        ∙ ap (columns (field_of s)) (facet_list n a p 0);
+        ∙ ap (columns (field_of s)) of_facet;
   }

@@ -7,7 +7,7 @@ use Rattle.exact.specs.Size.{Size}
 use Rattle.curves.specs.Grid.{Vertex, Facet, plus, facet_vertices}
 use Rattle.curves.specs.Step.{column, columns, readable_all}
 use Rattle.paper.specs.Values.{field_of}
-use Rattle.places.specs.declared.HeldPlace.{HeldPlace}
+use Rattle.paper.specs.declared.HeldPlace.{HeldPlace}
 use Rattle.determinants.specs.Cells.{stride, column_at, entry_limit, facet_columns, Cells}
 
 -- every number is at most as large as a readable value
@@ -49,9 +49,8 @@ pub record Cube (s : List ℕ) (n : ℕ) (v : Vertex) (values : List ℤ) (known
 
 -- the masks of a place are those of corners
 pub record MasksUnder (n : ℕ) (p : HeldPlace) : Type 0 where
-  pub mask1 : p.mask1 < 2 ^ n
-  pub mask2 : p.mask2 < 2 ^ n
-  pub mask3 : p.mask3 < 2 ^ n
+  pub count : length p.masks ≡ 3
+  pub each : (k : ℕ) → get_or p.masks k 0 < 2 ^ n
 
 -- the columns of a facet with the cube's vertex as its lowest
 pub record FacetTaken (s : List ℕ) (n : ℕ) (f : Facet) (r : Bool) (after : List ℤ) : Type 0 where
@@ -63,11 +62,14 @@ pub record FacetTaken (s : List ℕ) (n : ℕ) (f : Facet) (r : Bool) (after : L
 unfoldable pub value_at : List ℤ → ℕ → ℕ → ℤ
 value_at values k m = get_or values (stride * m + k) 0ℤ
 
--- value k is above 0 at no corner that is known, or at each of them
+-- value k is above 0 at no corner that is known, or, where `above` is false, at each of them
+abbrev pub NoneOnSide : ℕ → ℕ → Bool → List ℤ → List Bool → Type 0
+NoneOnSide n k above values known =
+    (m : ℕ) → m < 2 ^ n → get_or known m false ≡ true → le_z (value_at values k m) 0ℤ ≡ above
+
+-- one or the other
 abbrev pub OneSide : ℕ → ℕ → List ℤ → List Bool → Type 0
-OneSide n k values known =
-    ((m : ℕ) → m < 2 ^ n → get_or known m false ≡ true → le_z (value_at values k m) 0ℤ ≡ true)
-    ⊎ ((m : ℕ) → m < 2 ^ n → get_or known m false ≡ true → le_z (value_at values k m) 0ℤ ≡ false)
+OneSide n k values known = NoneOnSide n k true values known ⊎ NoneOnSide n k false values known
 
 -- some polynomial has one side only at the corners that are known
 pub record OneSided (n : ℕ) (values : List ℤ) (known : List Bool) : Type 0 where

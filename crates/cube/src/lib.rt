@@ -1,19 +1,18 @@
 // The values at the corners of the unit cube above a vertex, taken once for all the facets that have it as their lowest vertex.
+// The values and the tests of the corners stay two lent arrays: a struct that holds both would be lent again at each vertex, and its fact would name n,
+// which the job has already (as of the columns' cells).
 
 #![tactic(auto)]
 
-ghost use Rattle.std.specs.Prelude.{◌≡◌, ℕ, ◌+◌, ◌*◌, ◌≤◌, ◌<◌, true, false, not, ◌&&◌, List, ℤ, length};
-ghost use Rattle.std.specs.Int.Signed.{le_z};
-ghost use Rattle.exact.specs.Int.{0ℤ};
+ghost use Rattle.std.specs.Prelude.{◌≡◌, ℕ, ◌+◌, ◌*◌, ◌^◌, ◌≤◌, ◌<◌, true, false, Bool, List, ℤ, length, get_or};
 ghost use Rattle.bits.specs.Axes.{Axes};
 ghost use Rattle.places.specs.Held.{vertex_as, facet_as, VertexSize};
-ghost use Rattle.job.specs.OpenJob.{JobOf};
 ghost use Rattle.lattice.specs.Moves.{move_limit};
 ghost use Rattle.determinants.specs.Cells.{Cells};
-ghost use Rattle.cube.specs.Cube.{Within, ValuesCopied, CornerPut, Cube, FacetTaken, MasksUnder, OneSide, OneSided};
+ghost use Rattle.cube.specs.Cube.{Within, ValuesCopied, CornerPut, Cube, FacetTaken, MasksUnder, NoneOnSide, OneSide, OneSided};
 
-use columns::masks;
-use places::{HeldPlace, Vertex};
+use job::OpenJob;
+use paper::{HeldPlace, Vertex};
 
 // The values of vertex i of some columns, copied as those of vertex j of others.
 fn copy_values(n: usize, from: &[i64], i: usize, to: &mut [i64], j: usize)
@@ -21,57 +20,44 @@ fn copy_values(n: usize, from: &[i64], i: usize, to: &mut [i64], j: usize)
     requires i_in_bounds { (3 * i + 3 ≤ length from.now) × ((3 * j + 3 ≤ length to.old) × ((length from.now ≤ 48) × (length to.old ≤ 48))) }
     ensures { ValuesCopied n from.now i to.old j to.new }
 {
-    let mut k: usize = 0;
-    while k + 1 < n {
-        let x = from[3 * i + k];
-        to[3 * j + k] = x;
-        k += 1;
-    }
+    to[3 * j..3 * j + n - 1].copy_from_slice(&from[3 * i..3 * i + n - 1]);
 }
 
 // The corner v + m: whether it lies in the box with readable values, and then its values.
 fn put_corner(
-    job: &[u8],
-    n: usize,
+    job: OpenJob<'_>,
     v: Vertex,
     m: usize,
     one: &mut [i64; 15],
     values: &mut [i64; 48],
 ) -> bool
-    requires job_of { (JobOf n job.now) × ((VertexSize move_limit v) × (Cells n one.old)) }
-    requires m_bound { (m < 16) × ((Within n values.old) × (length values.old ≡ 48)) }
-    ensures { CornerPut job.now n (vertex_as n v) m values.old result values.new one.new }
+    requires sizes { (VertexSize move_limit v) × (Cells job.n one.old) }
+    requires m_bound { (m < 16) × ((Within job.n values.old) × (length values.old ≡ 48)) }
+    ensures { CornerPut job.entry.bytes.now job.entry.n (vertex_as job.entry.n v) m values.old result values.new one.new }
 {
     let u = lattice::shifted(v, m as u64);
-    if !field::vertex_inside(job, n, u) {
-        return false;
+    if field::vertex_inside(job, u) && field::put_values(job, u, 0, one) {
+        copy_values(job.n, one, 0, values, m);
+        true
+    } else {
+        false
     }
-    if !field::put_values(job, n, u, 0, one) {
-        return false;
-    }
-    copy_values(n, one, 0, values, m);
-    true
 }
 
 // All corners of the cube above v.
 pub fn fill(
-    job: &[u8],
-    n: usize,
+    job: OpenJob<'_>,
     v: Vertex,
     one: &mut [i64; 15],
     values: &mut [i64; 48],
     known: &mut [bool; 16],
 )
-    requires job_of { (JobOf n job.now) × ((VertexSize move_limit v) × (Cells n one.old)) }
-    requires within { (Within n values.old) × ((length values.old ≡ 48) × (length known.old ≡ 16)) }
-    ensures { Cube job.now n (vertex_as n v) values.new known.new one.new }
+    requires sizes { (VertexSize move_limit v) × (Cells job.n one.old) }
+    requires within { (Within job.n values.old) × ((length values.old ≡ 48) × (length known.old ≡ 16)) }
+    ensures { Cube job.entry.bytes.now job.entry.n (vertex_as job.entry.n v) values.new known.new one.new }
 {
-    let corners = 1usize << n;
-    let mut m: usize = 0;
-    while m < corners {
-        let is = put_corner(job, n, v, m, one, values);
-        known[m] = is;
-        m += 1;
+    for m in 0..1usize << job.n {
+        known[m] = put_corner(job, v, m, one, values);
     }
 }
 
@@ -87,14 +73,13 @@ pub fn take_facet(
     requires within { (Within n values.now) × ((length values.now ≡ 48) × (length known.now ≡ 16)) }
     ensures { (s : List ℕ) (one : List ℤ) → Cube s n (vertex_as n p.low) values.now known.now one → FacetTaken s n (facet_as n p) result cells.new }
 {
-    let mut k: usize = 0;
-    while k < n {
-        let m = masks::mask_at(p.mask1, p.mask2, p.mask3, 0, k) as usize;
+    let masks = columns::facet_masks(p);
+    for k in 0..n {
+        let m = masks[k] as usize;
         if !known[m] {
             return false;
         }
         copy_values(n, values, m, cells, k);
-        k += 1;
     }
     true
 }
@@ -106,26 +91,25 @@ pub fn no_values() -> [i64; 48]
     [0; 48]
 }
 
+// No corner is known yet.
 pub fn none_known() -> [bool; 16]
     ensures { length result ≡ 16 }
 {
     [false; 16]
 }
 
-// A value above 0 at a corner that is known.
-fn is_high(known: bool, x: i64) -> bool
-    ensures { result ≡ (known && not (le_z x 0ℤ)) }
+// Value k is above 0 at some of the corners that are known, or, where `above` is false, not above 0 at some: one test of either side.
+fn some_on_side(n: usize, k: usize, above: bool, values: &[i64; 48], known: &[bool; 16]) -> bool
+    requires axes { (Axes n) × ((Within n values.now) × ((length values.now ≡ 48) × (length known.now ≡ 16))) }
+    requires k_bound { k < 3 }
+    ensures { result ≡ false → NoneOnSide n k above values.now known.now }
 {
-    let below = x <= 0;
-    known & !below
-}
-
-// A value that is not above 0 at a corner that is known.
-fn is_low(known: bool, x: i64) -> bool
-    ensures { result ≡ (known && le_z x 0ℤ) }
-{
-    let below = x <= 0;
-    known & below
+    for m in 0..1usize << n {
+        if known[m] && (0 < values[3 * m + k]) == above {
+            return true;
+        }
+    }
+    false
 }
 
 // Value k is above 0 at some of the corners that are known, and not above 0 at others.
@@ -134,20 +118,7 @@ fn two_sided(n: usize, k: usize, values: &[i64; 48], known: &[bool; 16]) -> bool
     requires k_bound { k < 3 }
     ensures { result ≡ false → OneSide n k values.now known.now }
 {
-    let corners = 1usize << n;
-    let mut high = false;
-    let mut low = false;
-    let mut m: usize = 0;
-    while m < corners {
-        let x = values[3 * m + k];
-        let is = known[m];
-        let above = is_high(is, x);
-        let below = is_low(is, x);
-        high = high | above;
-        low = low | below;
-        m += 1;
-    }
-    high & low
+    some_on_side(n, k, true, values, known) && some_on_side(n, k, false, values, known)
 }
 
 // A polynomial has one side only at the corners that are known: then no facet of the cube is crossed, and none need be judged.
@@ -155,12 +126,5 @@ pub fn one_sided(n: usize, values: &[i64; 48], known: &[bool; 16]) -> bool
     requires { (Axes n) × ((Within n values.now) × ((length values.now ≡ 48) × (length known.now ≡ 16))) }
     ensures { result ≡ true → OneSided n values.now known.now }
 {
-    let mut k: usize = 0;
-    while k + 1 < n {
-        if !two_sided(n, k, values, known) {
-            return true;
-        }
-        k += 1;
-    }
-    false
+    (0..n - 1).any(|k| !two_sided(n, k, values, known))
 }

@@ -10,7 +10,7 @@ use Rattle.paper.specs.Operations.{refused, unless}
 use Rattle.paper.specs.Pen.{place_count}
 use Rattle.paper.proofs.Refusals.{first_passes, refuse_later}
 use Rattle.job.specs.OpenJob.{JobOf}
-use Rattle.job.proofs.OpenJob.{job_opens}
+use Rattle.job.proofs.Opened.{job_opens}
 use Rattle.nesting.specs.Standing.{standing}
 use Rattle.nesting.specs.CutOrder.{loop_inside, first_listed, order_refusal, ordered}
 use Rattle.nesting.proofs.OrderAnswers.{order_not_opened, order_other_dimension, order_uneven}

@@ -1,5 +1,5 @@
 -- The list position by position, as the code goes through it: what each position adds to the answer for those before it.
-use Rattle.std.specs.Prelude.{ℕ, suc, Bool, cond, List, [], ◌∷◌, ltb}
+use Rattle.std.specs.Prelude.{ℕ, suc, Bool, cond, List, [], ◌∷◌, Option, Some, None, min}
 use Rattle.paper.specs.Operations.{Answer, unless}
 use Rattle.paper.specs.Pen.{place_count}
 use Rattle.nesting.specs.Standing.{Standing, some, standing}
@@ -7,14 +7,16 @@ use Rattle.nesting.specs.CutOrder.{loop_inside, first_listed, positions_refusal}
 
 -- ---- the positions before
 
--- the first position with a later one inside it, where position k is added: `outer` counts if it is before k
-unfoldable pub earlier_of : ℕ → ℕ → ℕ → ℕ
-earlier_of first outer k = cond (ltb outer k) (cond (ltb outer first) outer first) first
+-- the earlier of two positions, of which there may be one or none
+abbrev pub earlier_of : Option ℕ → Option ℕ → Option ℕ
+earlier_of None outer = outer
+earlier_of (Some i) None = Some i
+earlier_of (Some i) (Some j) = Some (min i j)
 
--- the first position with a later one inside it, the list's first having position i; `none` if there is none
-unfoldable pub first_broken : {A : Type 0} → (A → A → Bool) → ℕ → ℕ → List A → ℕ
-first_broken inner none i [] = none
-first_broken inner none i (q ∷ later) = cond (some (λ p. inner p q) later) i (first_broken inner none (suc i) later)
+-- the first position with a later one inside it, if any has, the list's first having position i
+unfoldable pub first_broken : {A : Type 0} → (A → A → Bool) → ℕ → List A → Option ℕ
+first_broken inner i [] = None
+first_broken inner i (q ∷ later) = cond (some (λ p. inner p q) later) (Some i) (first_broken inner (suc i) later)
 
 -- ---- all positions
 

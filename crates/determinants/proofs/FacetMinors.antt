@@ -1,23 +1,22 @@
 -- The minors of a facet, as determinants of entries of the cells, in each dimension; and the sizes of minors, coefficients and D, over n.
-use Prim.Native.Nat.{ℕ, suc, zero, ◌+◌, ◌*◌, ◌^◌, ◌-◌, ◌%◌, ◌≤◌, ◌<◌}
+use Prim.Native.Nat.{ℕ, suc, zero, ◌+◌, ◌*◌, ◌^◌, ◌-◌, ◌≤◌, ◌<◌}
 use mathlib.Core.Path.{◌≡◌, refl, sym, ap, ap₂, ◌∙◌, subst, fun_ext}
 use mathlib.Core.List.{List, [], ◌∷◌, map}
 use native.Mathlib.Omega.{arith}
 use native.Mathlib.Decide.{ℕ_discrete}
-use lib.IntN.{ℤ, pos, ◌+ℤ◌, ◌-ℤ◌}
+use lib.IntN.{ℤ, pos, ◌+ℤ◌}
 use lib.Dec.{lit≤}
 use lib.ListN.{length, get_or}
 use mir.Syntax.{w64}
 use mir.Val.{SFits}
-use Rattle.exact.specs.Int.{neg, 0ℤ, 1ℤ}
+use Rattle.exact.specs.Int.{0ℤ, 1ℤ}
 use Rattle.exact.specs.Size.{Size, Is}
 use Rattle.exact.specs.Factorial.{factorial}
 use Rattle.exact.specs.Det.{det, rows_from, determinant}
 use Rattle.exact.specs.Crossed.{count_from, coefficient, remove}
 use Rattle.exact.specs.Minors.{alternate, skip, sum_to}
-use Rattle.exact.proofs.Ring.{sub_eq, zero-add}
 use Rattle.exact.proofs.SizeLaws.{size_pos, size_weaken}
-use Rattle.exact.proofs.Bits.{holds_call, back, fits_add, fits_sub, holds_add, holds_sub}
+use Rattle.exact.proofs.Bits.{holds_call, back, fits_add, holds_add}
 use Rattle.exact.proofs.Sums.{sum_to_last}
 use Rattle.exact.proofs.Position.{skip_le}
 use Rattle.exact.proofs.Rows.{row}
@@ -25,7 +24,7 @@ use Rattle.exact.proofs.Tagged.{on_part, det_map}
 use Rattle.exact.proofs.DetSize.{Each, EntriesWithin}
 use Rattle.exact.proofs.Weights.{weights_sum}
 use Rattle.exact.proofs.CountFrom.{length_map_count_from, get_d_map_count_from, get_d_past_count_from, map_count_from_ext, remove_map_count_from}
-use Rattle.exact.proofs.Cofactor.{coefficient_minor, alternate_add, alternate_even, alternate_odd, rows_without}
+use Rattle.exact.proofs.Cofactor.{coefficient_minor, alternate_add, rows_without}
 use Rattle.exact.proofs.CoefficientSize.{each_remove}
 use Rattle.exact.proofs.CoefficientSize as size
 use Rattle.exact.proofs.SmallDeterminants.{det_one}
@@ -188,34 +187,17 @@ pub weights_none : (f : ℕ → ℤ) → Is (0 * coefficient_limit) (sum_to 0 f)
 unfolding sum_to
 weights_none f = record { is = refl; size = record { size = lit≤ tt } }
 
--- the cofactor's sign
-module _
-    {n : ℕ} {cells : List ℤ} {out i j : ℕ} (pre : Cells n cells × ((out ≤ n) × ((i < n) × (j < n))))
-    {m : ℤ} (e : Is coefficient_limit (facet_minor n cells out i j) m) where
-  is_cofactor : coefficient n (facet_columns n cells out) i j ≡ alternate (i + j) (facet_minor n cells out i j)
-  is_cofactor =
-      coefficient_minor n (facet_columns n cells out) i j (subst (λ (k : ℕ). i < k) (sym (facet_length n cells out pre.1.0)) pre.1.1.0)
-      pre.1.1.1
-      ∙ alternate_add i j (facet_minor n cells out i j)
-
-  pub cofactor_even : (i + j) % 2 ≡ 0 → Is coefficient_limit (coefficient n (facet_columns n cells out) i j) (back m)
-  cofactor_even even =
-      subst (λ z. Is coefficient_limit z (back m)) (sym (is_cofactor ∙ alternate_even (i + j) (facet_minor n cells out i j) even)) (holds_call e (lit≤ tt))
-
-  nought : Is 0 0ℤ (pos 0)
-  nought = record { is = refl; size = size_pos 0 }
-
-  pub opposite_fits : SFits w64 (pos 0 -ℤ back m)
-  opposite_fits = fits_sub nought (holds_call e (lit≤ tt)) (lit≤ tt)
-
-  pub cofactor_odd :
-      ((i + j) % 2 ≡ 0 → ⊥) → Is coefficient_limit (coefficient n (facet_columns n cells out) i j) (back (pos 0 -ℤ back m))
-  cofactor_odd odd = record {
-    is = (holds_sub nought (holds_call e (lit≤ tt)) (lit≤ tt)).is
-        ∙ sub_eq 0ℤ (facet_minor n cells out i j) ∙ zero-add (neg (facet_minor n cells out i j))
-        ∙ sym (is_cofactor ∙ alternate_odd (i + j) (facet_minor n cells out i j) odd);
-    size = coefficient_size n cells pre.0 out i j pre.1.1.0 pre.1.1.1 pre.1.0;
-  }
+-- the coefficient is the cofactor
+pub cofactor :
+    {n : ℕ} {cells : List ℤ} {out i j : ℕ} → Cells n cells × ((out ≤ n) × ((i < n) × (j < n))) → {m z : ℤ}
+    → Is coefficient_limit (facet_minor n cells out i j) m → Is coefficient_limit (alternate (i + j) m) z
+    → Is coefficient_limit (coefficient n (facet_columns n cells out) i j) z
+cofactor {n} {cells} {out} {i} {j} pre {m} {z} e a =
+    let minor = facet_minor n cells out i j in
+    let is : alternate (i + j) m ≡ coefficient n (facet_columns n cells out) i j =
+    ap (alternate (i + j)) e.is ∙ sym (alternate_add i j minor)
+    ∙ sym (coefficient_minor n (facet_columns n cells out) i j (subst (λ (k : ℕ). i < k) (sym (facet_length n cells out pre.1.0)) pre.1.1.0) pre.1.1.1) in
+    subst (λ x. Is coefficient_limit x z) is a
 
 module _ {n : ℕ} {cells : List ℤ} {out : ℕ} (pre : Cells n cells × (out ≤ n)) where
   -- the coefficient of power 0 at a vertex

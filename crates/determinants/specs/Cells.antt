@@ -29,7 +29,8 @@ facet_columns n cells out = remove out (simplex_columns n cells)
 unfoldable pub entry_limit : ℕ → ℕ
 entry_limit n = readable_limit n
 
--- what is asked of the cells: every number, those that do not count too, is within the limit
+-- what is asked of the cells: every number, those that do not count too, is within the limit. They stay a lent array with this fact beside it: a
+-- struct with the fact in it would hold n too, which the job holds already, and each function of both would ask that the two agree.
 pub record Cells (n : ℕ) (cells : List ℤ) : Type 0 where
   pub axes : Axes n
   pub count : length cells ≡ 15

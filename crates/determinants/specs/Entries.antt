@@ -1,5 +1,5 @@
 -- The entries of the columns of a simplex, read from its cells, and the sizes that the determinants of a facet keep to.
-use Rattle.std.specs.Prelude.{ℕ, suc, zero, ◌+◌, ◌*◌, ◌^◌, ◌≡◌, List, ℤ, length, get_or}
+use Rattle.std.specs.Prelude.{ℕ, suc, zero, ◌+◌, ◌*◌, ◌^◌, ◌≡◌, ◌<◌, List, ℤ, length, get_or}
 use Rattle.exact.specs.Int.{0ℤ, 1ℤ}
 use Rattle.exact.specs.Size.{Size}
 use Rattle.determinants.specs.Cells.{stride}
@@ -13,6 +13,11 @@ entry_at cells (suc k) v = get_or cells (stride * v + k) 0ℤ
 pub record CellsWithin (m : ℕ) (cells : List ℤ) : Type 0 where
   pub count : length cells ≡ 15
   pub entries : (k : ℕ) → Size m (get_or cells k 0ℤ)
+
+-- rows and vertices that have entries in the cells
+pub record Held (rows vertices : List ℕ) : Type 0 where
+  pub row : (k : ℕ) → get_or rows k 0 < 4
+  pub vertex : (k : ℕ) → get_or vertices k 0 < 5
 
 -- an entry times a determinant of two rows, of entries up to 2 ^ 19
 abbrev pub product_limit : ℕ

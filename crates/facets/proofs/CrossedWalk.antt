@@ -9,25 +9,25 @@ use Rattle.exact.specs.Sign.{Sign, negative, nought, positive, sign, or_else, le
 use Rattle.exact.specs.Det.{Column, determinant}
 use Rattle.exact.specs.Crossed.{count_from, coefficient, coefficients, all_have_sign, crossed}
 use Rattle.exact.proofs.CountFrom.{count_from_next, count_from_none}
-use Rattle.exact.proofs.LexSign.{signs_differ}
-use Rattle.facets.specs.Signs.{sign_number}
-use Rattle.facets.proofs.SignNumber.{same_sign_number, same_sign_numbers_differ}
+use Rattle.exact.proofs.LexSign.{same_sign_sound}
 
-or_else_nought : (s t : Sign) → sign_number s ≡ 0 → or_else s t ≡ t
-unfolding sign_number or_else
+or_else_nought : (s t : Sign) → same_sign s nought ≡ true → or_else s t ≡ t
+unfolding same_sign or_else
 or_else_nought negative t h = cc
 or_else_nought nought t h = refl
 or_else_nought positive t h = cc
 
-or_else_found : (s t : Sign) → (sign_number s ≡ 0 → ⊥) → or_else s t ≡ s
-unfolding sign_number or_else
+or_else_found : (s t : Sign) → same_sign s nought ≡ false → or_else s t ≡ s
+unfolding same_sign or_else
 or_else_found negative t h = refl
-or_else_found nought t h = absurd (h refl)
+or_else_found nought t h = cc
 or_else_found positive t h = refl
 
-nought_differs : (s : Sign) → (sign_number s ≡ 0 → ⊥) → same_sign nought s ≡ false
-unfolding sign_number
-nought_differs s h = signs_differ nought s (λ e. h (ap sign_number (sym e)))
+nought_differs : (s : Sign) → same_sign s nought ≡ false → same_sign nought s ≡ false
+unfolding same_sign
+nought_differs negative h = refl
+nought_differs nought h = h
+nought_differs positive h = refl
 
 module _ (n : ℕ) (cs : List Column) where
   -- the coefficients of vertex i from power j on
@@ -45,11 +45,11 @@ module _ (n : ℕ) (cs : List Column) where
   left_next i j h = ap (λ l. lex_sign (map (λ k. coefficient n cs i k) l)) (count_from_next j n h)
 
   pub left_passed :
-      (i j : ℕ) → j < n → sign_number (sign (coefficient n cs i j)) ≡ 0 → lex_sign (left_at i j) ≡ lex_sign (left_at i (j + 1))
+      (i j : ℕ) → j < n → same_sign (sign (coefficient n cs i j)) nought ≡ true → lex_sign (left_at i j) ≡ lex_sign (left_at i (j + 1))
   left_passed i j h z = left_next i j h ∙ or_else_nought (sign (coefficient n cs i j)) _ z
 
   pub left_found :
-      (i j : ℕ) → j < n → (sign_number (sign (coefficient n cs i j)) ≡ 0 → ⊥) → lex_sign (left_at i j) ≡ sign (coefficient n cs i j)
+      (i j : ℕ) → j < n → same_sign (sign (coefficient n cs i j)) nought ≡ false → lex_sign (left_at i j) ≡ sign (coefficient n cs i j)
   left_found i j h z = left_next i j h ∙ or_else_found (sign (coefficient n cs i j)) _ z
 
   pub left_none : (i j : ℕ) → n ≤ j → lex_sign (left_at i j) ≡ nought
@@ -58,23 +58,21 @@ module _ (n : ℕ) (cs : List Column) where
 
   -- ---- the vertices
 
-  D : Sign
+  abbrev pub D : Sign
   D = sign (determinant n cs)
 
   pub vertices_left : ℕ → Bool
   vertices_left i = all_have_sign n cs D (count_from i (n - i))
 
-  pub crossed_zero : sign_number (sign (determinant n cs)) ≡ 0 → false ≡ crossed n cs
-  unfolding crossed sign_number
-  crossed_zero h =
-      ap (λ b. not b && all_have_sign n cs (sign (determinant n cs)) (count_from 0 n)) (sym (same_sign_number (sign (determinant n cs)) nought h))
+  pub crossed_zero : same_sign D nought ≡ true → false ≡ crossed n cs
+  unfolding crossed
+  crossed_zero h = ap (λ b. not b && all_have_sign n cs D (count_from 0 n)) (sym h)
 
-  pub crossed_begin : (sign_number (sign (determinant n cs)) ≡ 0 → ⊥) → crossed n cs ≡ vertices_left 0
-  unfolding crossed vertices_left D sign_number
+  pub crossed_begin : same_sign D nought ≡ false → crossed n cs ≡ vertices_left 0
+  unfolding crossed vertices_left
   crossed_begin h =
       let whole : n ≡ n - 0 = omega arith in
-      ap (λ b. not b && all_have_sign n cs (sign (determinant n cs)) (count_from 0 n)) (same_sign_numbers_differ (sign (determinant n cs)) nought h)
-      ∙ ap (λ m. all_have_sign n cs (sign (determinant n cs)) (count_from 0 m)) whole
+      ap (λ b. not b && all_have_sign n cs D (count_from 0 n)) h ∙ ap (λ m. all_have_sign n cs D (count_from 0 m)) whole
 
   vertices_next : (i : ℕ) → i < n → vertices_left i ≡ same_sign (lex_sign (coefficients n cs i)) D && vertices_left (i + 1)
   unfolding vertices_left all_have_sign
@@ -84,33 +82,28 @@ module _ (n : ℕ) (cs : List Column) where
   unfolding vertices_left all_have_sign
   vertices_none i h = ap (all_have_sign n cs D) (count_from_none i n h)
 
-  -- the first non-zero coefficient of vertex i, at power j, has the sign of D
+  -- every coefficient of vertex i before power j is 0
+  abbrev pub Passed : ℕ → ℕ → Type 0
+  Passed i j = lex_sign (coefficients n cs i) ≡ lex_sign (left_at i j)
+
+  -- the first non-zero coefficient of vertex i, at power j, has the sign of D, which is not 0
   pub vertex_with :
-      (i j : ℕ) → i < n → j < n → lex_sign (coefficients n cs i) ≡ lex_sign (left_at i j)
-      → (sign_number (sign (coefficient n cs i j)) ≡ 0 → ⊥) → sign_number (sign (coefficient n cs i j)) ≡ sign_number (sign (determinant n cs))
+      (i j : ℕ) → i < n → j < n → Passed i j → same_sign D nought ≡ false → same_sign (sign (coefficient n cs i j)) D ≡ true
       → vertices_left i ≡ vertices_left (i + 1)
-  unfolding D
-  vertex_with i j hi hj e z same =
+  vertex_with i j hi hj e d same =
+      let is = same_sign_sound (sign (coefficient n cs i j)) D same in
       vertices_next i hi
       ∙ ap (λ b. b && vertices_left (i + 1))
-      (ap (λ s. same_sign s D) (e ∙ left_found i j hj z) ∙ same_sign_number (sign (coefficient n cs i j)) (sign (determinant n cs)) same)
+      (ap (λ s. same_sign s D) (e ∙ left_found i j hj (ap (λ s. same_sign s nought) is ∙ d)) ∙ same)
 
   -- it has the other sign
   pub vertex_against_lem :
-      (i j : ℕ) → i < n → j < n → lex_sign (coefficients n cs i) ≡ lex_sign (left_at i j)
-      → (sign_number (sign (coefficient n cs i j)) ≡ 0 → ⊥) → (sign_number (sign (coefficient n cs i j)) ≡ sign_number (sign (determinant n cs)) → ⊥)
-      → vertices_left i ≡ false
-  unfolding D
+      (i j : ℕ) → i < n → j < n → Passed i j → same_sign (sign (coefficient n cs i j)) nought ≡ false
+      → same_sign (sign (coefficient n cs i j)) D ≡ false → vertices_left i ≡ false
   vertex_against_lem i j hi hj e z differ =
-      vertices_next i hi
-      ∙ ap (λ b. b && vertices_left (i + 1))
-      (ap (λ s. same_sign s D) (e ∙ left_found i j hj z) ∙ same_sign_numbers_differ (sign (coefficient n cs i j)) (sign (determinant n cs)) differ)
+      vertices_next i hi ∙ ap (λ b. b && vertices_left (i + 1)) (ap (λ s. same_sign s D) (e ∙ left_found i j hj z) ∙ differ)
 
   -- it has none
-  pub vertex_without :
-      (i j : ℕ) → i < n → n ≤ j → lex_sign (coefficients n cs i) ≡ lex_sign (left_at i j) → (sign_number (sign (determinant n cs)) ≡ 0 → ⊥)
-      → vertices_left i ≡ false
-  unfolding D
-  vertex_without i j hi hj e z =
-      vertices_next i hi
-      ∙ ap (λ b. b && vertices_left (i + 1)) (ap (λ s. same_sign s D) (e ∙ left_none i j hj) ∙ nought_differs (sign (determinant n cs)) z)
+  pub vertex_without : (i j : ℕ) → i < n → n ≤ j → Passed i j → same_sign D nought ≡ false → vertices_left i ≡ false
+  vertex_without i j hi hj e d =
+      vertices_next i hi ∙ ap (λ b. b && vertices_left (i + 1)) (ap (λ s. same_sign s D) (e ∙ left_none i j hj) ∙ nought_differs D d)

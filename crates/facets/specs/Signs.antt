@@ -1,8 +1,9 @@
--- A sign as the code holds it.
-use Rattle.std.specs.Prelude.{ℕ}
+-- A sign as the code holds it: how a number compares with 0.
+use Rattle.std.specs.declared.cmp.Ordering.{Ordering}
+use Rattle.std.specs.declared.cmp.Ordering.TheVariants.{Less, Equal, Greater}
 use Rattle.exact.specs.Sign.{Sign, negative, nought, positive}
 
-unfoldable pub sign_number : Sign → ℕ
-sign_number nought = 0
-sign_number positive = 1
-sign_number negative = 2
+unfoldable pub sign_as : Ordering → Sign
+sign_as Less = negative
+sign_as Equal = nought
+sign_as Greater = positive

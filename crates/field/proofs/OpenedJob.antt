@@ -12,10 +12,10 @@ use Rattle.paper.specs.Job.{dimension, bias, body}
 use Rattle.paper.specs.Values.{readable_sum, value_of, field_from, field_of}
 use Rattle.paper.proofs.Bodies.{box_length, terms_high}
 use Rattle.paper.proofs.BiasedValues.{value_size}
-use Rattle.places.specs.declared.Vertex.{Vertex}
+use Rattle.paper.specs.declared.Vertex.{Vertex}
 use Rattle.places.specs.Held.{vertex_as}
 use Rattle.job.specs.OpenJob.{JobOf}
-use Rattle.job.proofs.OpenJob.{job_opens, job_axes}
+use Rattle.job.proofs.Opened.{job_opens, job_axes}
 use Rattle.lattice.specs.Box.{Near}
 use Rattle.polynomial.specs.Sums.{Polynomial}
 use Rattle.lattice.proofs.InBox.{inside_near}

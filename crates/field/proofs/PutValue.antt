@@ -27,11 +27,11 @@ module _ (s : List ℕ) (k : ℕ) (v : Vertex) {b : List ℕ} {r : ℤ} (e : b �
   test_is : t ≡ readable_sum n (raw_sum (body s k) v)
   test_is = h ∙ ap (readable_sum n) sum_is
 
-  pub value_refused : t ≡ false → ValuePut s n v k at before false before
-  value_refused f = record { test = sym f ∙ test_is; put = λ z. absurd (false≢true z); kept = λ z. refl }
+  pub value_refused : t ≡ false → ValuePut s n v k at before t before
+  value_refused f = record { test = test_is; put = λ z. absurd (false≢true (sym f ∙ z)); kept = λ z. refl }
 
-  pub value_put : {b : ℕ} {z : ℤ} → t ≡ true → z ≡ value_of b (back r) → b ≡ bias s → ValuePut s n v k at before true (set before at (back z))
+  pub value_put : {b : ℕ} {z : ℤ} → t ≡ true → z ≡ value_of b (back r) → b ≡ bias s → ValuePut s n v k at before t (set before at (back z))
   value_put {b} {z} f g d =
       let is : z ≡ value_of (bias s) (raw_sum (body s k) v) = g ∙ ap₂ value_of d sum_is in
       let small : Size sum_limit z = rw g (value_size b (back r) (back_size (is_size i) sum_word)) in
-      record { test = sym f ∙ test_is; put = λ u. ap (set before at) (back_is small sum_word ∙ is); kept = λ u. absurd (true≢false u) }
+      record { test = test_is; put = λ u. ap (set before at) (back_is small sum_word ∙ is); kept = λ u. absurd (true≢false (sym f ∙ u)) }

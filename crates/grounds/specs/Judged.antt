@@ -1,12 +1,14 @@
 -- Judge in the form that names its ground: document 02, request 2.9. Its refusals are Judge's.
-use Rattle.std.specs.Prelude.{ℕ, Bool, List, [], ◌∷◌}
+use Rattle.std.specs.Prelude.{ℕ, Bool, List, take, Result}
 use Rattle.exact.specs.Det.{Column}
 use Rattle.curves.specs.Grid.{facet_vertices}
 use Rattle.curves.specs.Step.{columns}
 use Rattle.paper.specs.Job.{dimension}
 use Rattle.paper.specs.Values.{field_of}
 use Rattle.paper.specs.Operations.{Answer, refused, answered, unless, facet_of, judge_refusal}
-use Rattle.grounds.specs.declared.JudgedBy as JudgedBy
+use Rattle.paper.specs.Refusals.{answer_by}
+use Rattle.paper.specs.declared.Refusal as Refusal
+use Rattle.grounds.specs.declared.NamedGround as NamedGround
 use Rattle.grounds.specs.Ground.{Ground, zero_determinant, vertex_against, all_with, ground, crossed_by}
 
 -- the columns of a place's facet: 1 and the values at each vertex, in chain order
@@ -22,10 +24,10 @@ plainly (refused k) = refused k
 plainly (answered g) = answered (crossed_by g)
 
 -- each case of the code's answer
-unfoldable pub judged_by_as : JudgedBy.JudgedBy → Answer Ground
-judged_by_as (JudgedBy.TheVariants.Refused k) = refused k
-judged_by_as JudgedBy.TheVariants.ZeroDeterminant = answered zero_determinant
-judged_by_as (JudgedBy.TheVariants.Against i j) = answered (vertex_against i j)
-judged_by_as (JudgedBy.TheVariants.Crossed2 a b) = answered (all_with (a ∷ b ∷ []))
-judged_by_as (JudgedBy.TheVariants.Crossed3 a b c) = answered (all_with (a ∷ b ∷ c ∷ []))
-judged_by_as (JudgedBy.TheVariants.Crossed4 a b c d) = answered (all_with (a ∷ b ∷ c ∷ d ∷ []))
+unfoldable pub named_as : NamedGround.NamedGround → Ground
+named_as NamedGround.TheVariants.ZeroDeterminant = zero_determinant
+named_as (NamedGround.TheVariants.Against i j) = vertex_against i j
+named_as (NamedGround.TheVariants.Crossed p) = all_with (take p.n p.powers)
+
+unfoldable pub judged_by_as : Result NamedGround.NamedGround Refusal.Refusal → Answer Ground
+judged_by_as r = answer_by named_as r

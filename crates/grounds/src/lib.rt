@@ -1,30 +1,19 @@
-// The public answer of Judge in the form that names its ground (request 2.9). What each case means is said in specs/Judged.antt.
+// The ground that Judge names (request 2.9). What each case means is said in specs/Judged.antt.
 
 #![tactic(auto)]
 
-// The refusal's number; not crossed, since D is 0; not crossed, with the first vertex whose sign is against D and the power that decided it; or
-// crossed, with the power that decided each vertex. 0 is a power like others, so a case has the fields that its dimension uses and no more.
-#[derive(Clone, Copy)]
-pub enum JudgedBy {
-    Refused(u64),
+// The powers that decide the vertices of a crossed facet, of which the first n count: 0 is a power like others. No heap, so an array with its count.
+#[derive(Clone, Copy, Debug, PartialEq, Eq)]
+pub struct Powers {
+    pub n: u64,
+    pub powers: [u64; 4],
+}
+
+// Not crossed, since D is 0; not crossed, with the first vertex whose sign is against D and the power that decided it; or crossed, with the power
+// that decided each vertex.
+#[derive(Clone, Copy, Debug, PartialEq, Eq)]
+pub enum NamedGround {
     ZeroDeterminant,
-    Against {
-        vertex: u64,
-        power: u64,
-    },
-    Crossed2 {
-        power0: u64,
-        power1: u64,
-    },
-    Crossed3 {
-        power0: u64,
-        power1: u64,
-        power2: u64,
-    },
-    Crossed4 {
-        power0: u64,
-        power1: u64,
-        power2: u64,
-        power3: u64,
-    },
+    Against { vertex: u64, power: u64 },
+    Crossed(Powers),
 }

@@ -1,3 +1,3 @@
 -- Laws that the proofs of the functions cite.
 pub mod OpenSteps
-pub mod OpenJob
+pub mod Opened

@@ -1,94 +1,93 @@
-// Open of document 01: a job's bytes tested in the paper's order, and the parts of a job that opens.
+// Open of document 01: a job's bytes tested in the paper's order, and what a job that opens gives.
 
 #![tactic(auto)]
 
-ghost use Rattle.std.specs.Prelude.{◌≡◌, ◌+◌, ◌≤◌, ◌<◌};
-ghost use Rattle.paper.specs.Job.{dimension, bias, entry_offset, body, open_refusal};
+ghost use Rattle.std.specs.Prelude.{◌≡◌, ◌≤◌};
+ghost use Rattle.paper.specs.Job.{bias, entry_offset, body, open_refusal};
 ghost use Rattle.paper.specs.Operations.{answered, polynomial_terms, open_values, opened};
-ghost use Rattle.paper.specs.Answers.{opened_as};
+ghost use Rattle.paper.specs.Refusals.{RefusedOr};
+ghost use Rattle.paper.specs.Answers.{opened_as, opened_list};
 ghost use Rattle.entries.specs.Parts.{BeginsAt};
+ghost use Rattle.job.specs.OpenJob.{JobOf};
 
 use bits::read;
-use bodytests::bodies_refusal;
-use paper::Opened;
+use paper::{Opened, Refusal};
 
-// Open's refusal, tested in rising number; 0 if the job opens.
-pub fn open_refusal(job: &[u8]) -> u64
-    ensures { result ≡ open_refusal job.now }
-{
-    if job.len() < 4 {
-        return 1;
-    }
-    if read::byte(job, 0) != 1 {
-        return 2;
-    }
-    let n = read::byte(job, 1) as usize;
-    if !limits::dimension_ok(n) {
-        return 3;
-    }
-    if read::byte(job, 2) as usize != n + 1 {
-        return 4;
-    }
-    bodies_refusal(n, job)
+// A job that has opened: its bytes and its dimension.
+#[derive(Clone, Copy)]
+pub struct OpenJob<'a> {
+    pub bytes: &'a [u8],
+    pub n: usize,
+    pub ghost opened: { JobOf n bytes.now },
 }
 
-// The dimension of a job that opens.
-pub fn opened_dimension(job: &[u8]) -> usize
-    requires { open_refusal job.now ≡ 0 }
-    ensures { result ≡ dimension job.now }
-{
-    read::byte(job, 1) as usize
-}
-
-// The bias of a job that opens.
-pub fn opened_bias(job: &[u8]) -> u64
-    requires { open_refusal job.now ≡ 0 }
-    ensures { result ≡ bias job.now }
-{
-    read::byte(job, 3)
-}
-
-// Body k of a job that opens.
-pub fn opened_body(job: &[u8], k: usize) -> &[u8]
-    requires { (open_refusal job.now ≡ 0) × (k ≤ dimension job.now) }
-    ensures place { BeginsAt job.entry (entry_offset job.now k) result }
-    ensures bytes { result.now ≡ body job.now k }
-{
-    entries::part_of(job, k)
-}
-
-// The count of terms of polynomial k of a job that opens; 0 if it has no such polynomial.
-pub fn polynomial_terms(job: &[u8], k: usize) -> u64
-    requires { open_refusal job.now ≡ 0 }
-    ensures { result ≡ polynomial_terms job.now k }
-{
-    if k < opened_dimension(job) {
-        let b = opened_body(job, k);
-        return (b.len() / 8) as u64;
+impl<'a> OpenJob<'a> {
+    // Open's tests, in rising number.
+    pub fn open(bytes: &'a [u8]) -> Result<OpenJob<'a>, Refusal>
+        ensures { RefusedOr (open_refusal bytes.entry.now) (λ job. job.bytes ≡ bytes.entry) result }
+    {
+        if bytes.len() < 4 {
+            return Err(Refusal::Short);
+        }
+        if read::byte(bytes, 0) != 1 {
+            return Err(Refusal::Version);
+        }
+        let n = read::byte(bytes, 1) as usize;
+        if !limits::dimension_ok(n) {
+            return Err(Refusal::Dimension);
+        }
+        if read::byte(bytes, 2) as usize != n + 1 {
+            return Err(Refusal::EntryCount);
+        }
+        bodytests::test_bodies(n, bytes)?;
+        Ok(OpenJob { bytes, n })
     }
-    0
-}
 
-// Open's answer for a job that opens: n and each polynomial's count of terms.
-pub fn opened_values(job: &[u8]) -> Opened
-    requires { open_refusal job.now ≡ 0 }
-    ensures { opened_as result ≡ answered (open_values job.now) }
-{
-    Opened::Job {
-        n: opened_dimension(job) as u64,
-        terms1: polynomial_terms(job, 1),
-        terms2: polynomial_terms(job, 2),
-        terms3: polynomial_terms(job, 3),
+    // The bias.
+    pub fn bias(self) -> u64
+        ensures { result ≡ bias self.entry.bytes.now }
+    {
+        read::byte(self.bytes, 3)
+    }
+
+    // Body k.
+    pub fn body(self, k: usize) -> &'a [u8]
+        requires { k ≤ self.n }
+        ensures place { BeginsAt self.entry.bytes (entry_offset self.entry.bytes.now k) result }
+        ensures bytes { result.now ≡ body self.entry.bytes.now k }
+    {
+        entries::part_of(self.bytes, k)
+    }
+
+    // The count of terms of polynomial k; 0 if the job has no such polynomial.
+    pub fn polynomial_terms(self, k: usize) -> u64
+        ensures { result ≡ polynomial_terms self.entry.bytes.now k }
+    {
+        if k < self.n {
+            (self.body(k).len() / 8) as u64
+        } else {
+            0
+        }
+    }
+
+    // Open's answer: n and each polynomial's count of terms.
+    pub fn values(self) -> Opened
+        ensures { answered (opened_list result) ≡ answered (open_values self.entry.bytes.now) }
+    {
+        Opened {
+            n: self.n as u64,
+            terms: [
+                self.polynomial_terms(1),
+                self.polynomial_terms(2),
+                self.polynomial_terms(3),
+            ],
+        }
     }
 }
 
-// Open: the refusal's number, or n and each polynomial's count of terms.
-pub fn open(job: &[u8]) -> Opened
+// Open: the refusal, or n and each polynomial's count of terms.
+pub fn open(job: &[u8]) -> Result<Opened, Refusal>
     ensures { opened_as result ≡ opened job.now }
 {
-    let refusal = open_refusal(job);
-    if refusal != 0 {
-        return Opened::Refused(refusal);
-    }
-    opened_values(job)
+    Ok(OpenJob::open(job)?.values())
 }

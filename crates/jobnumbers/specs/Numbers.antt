@@ -1,13 +1,15 @@
 -- The answers about a job as the C interface's structs. Refusal 0 is none; beside a refusal every other field is 0, and so is a count that a lower
 -- dimension does not have.
-use Rattle.std.specs.Prelude.{ℕ, List, ℤ, length, get_or}
+use Rattle.std.specs.Prelude.{ℕ, List, ℤ, get_or}
 use Rattle.exact.specs.Int.{0ℤ}
 use Rattle.paper.specs.Job.{entry_offset, entry_length}
 use Rattle.paper.specs.Operations.{Answer, refused, answered, unless, body_refusal}
 use Rattle.jobnumbers.specs.declared.OpenAnswer.{OpenAnswer}
 use Rattle.jobnumbers.specs.declared.BodyAnswer.{BodyAnswer}
 use Rattle.jobnumbers.specs.declared.WriteAnswer.{WriteAnswer}
+use Rattle.formula.specs.Read.{Handed}
 use Rattle.jobnumbers.specs.declared.SumAnswer.{SumAnswer}
+use Rattle.jobnumbers.specs.declared.FormulaAnswer.{FormulaAnswer}
 
 -- n and each polynomial's count of terms
 unfoldable pub open_numbers : Answer (List ℕ) → OpenAnswer
@@ -31,3 +33,7 @@ write_numbers (answered l) = record { refusal = 0; length = l }
 unfoldable pub sum_numbers : Answer ℤ → SumAnswer
 sum_numbers (refused k) = record { refusal = k; sum = 0ℤ }
 sum_numbers (answered z) = record { refusal = 0; sum = z }
+
+-- a formula that was read
+unfoldable pub handed_in : FormulaAnswer → Handed
+handed_in a = record { refusal = a.refusal; count = a.count; bytes = a.bytes }

@@ -3,24 +3,42 @@
 
 #![tactic(auto)]
 
-ghost use Rattle.std.specs.Prelude.{◌≡◌};
+ghost use Rattle.std.specs.Prelude.{◌≡◌, ◌<◌, get_or, take};
 ghost use Rattle.paper.specs.Answers.{judged_as};
 ghost use Rattle.grounds.specs.Judged.{judged_by_as};
-ghost use Rattle.judgenumbers.specs.Numbers.{judge_numbers, without_powers, with_powers, ground_numbers};
+ghost use Rattle.judgenumbers.specs.Numbers.{judge_numbers, ground_numbers};
 
-use grounds::JudgedBy;
-use paper::Judged;
+use grounds::{NamedGround, Powers};
+use paper::Refusal;
 
 #[repr(C)]
-#[derive(Clone, Copy)]
+#[derive(Clone, Copy, Debug, PartialEq, Eq, Default)]
 pub struct JudgeAnswer {
     pub refusal: u64,
     pub crossed: u64,
 }
 
+impl From<Result<bool, Refusal>> for JudgeAnswer {
+    ghost from_gives = { λ answer numbers. numbers ≡ judge_numbers (judged_as answer) };
+
+    #[tactic(auto, unfolding(crate::specs::Numbers::judge_numbers, paper::specs::Answers::judged_as, paper::specs::Refusals::answer_by))]
+    fn from(answer: Result<bool, Refusal>) -> JudgeAnswer {
+        match answer {
+            Ok(crossed) => JudgeAnswer {
+                refusal: 0,
+                crossed: crossed as u64,
+            },
+            Err(refusal) => JudgeAnswer {
+                refusal: refusal.number(),
+                ..JudgeAnswer::default()
+            },
+        }
+    }
+}
+
 // Kind 0: not crossed, D is 0; 1: not crossed, the sign of `vertex` is against D by `power`; 2: crossed, the first n of power0 to power3.
 #[repr(C)]
-#[derive(Clone, Copy)]
+#[derive(Clone, Copy, Debug, PartialEq, Eq, Default)]
 pub struct GroundAnswer {
     pub refusal: u64,
     pub kind: u64,
@@ -33,79 +51,45 @@ pub struct GroundAnswer {
     pub power3: u64,
 }
 
-// Judge.
-pub fn judge_numbers(answer: Judged) -> JudgeAnswer
-    ensures { result ≡ judge_numbers (judged_as answer) }
+// The power of vertex k; 0 from n on.
+fn power_of(named: Powers, k: usize) -> u64
+    requires { k < 4 }
+    ensures { result ≡ get_or (take named.n named.powers) k 0 }
 {
-    match answer {
-        Judged::Refused(refusal) => JudgeAnswer {
-            refusal,
-            crossed: 0,
-        },
-        Judged::Crossed => JudgeAnswer {
-            refusal: 0,
-            crossed: 1,
-        },
-        Judged::NotCrossed => JudgeAnswer {
-            refusal: 0,
-            crossed: 0,
-        },
+    if (k as u64) < named.n {
+        named.powers[k]
+    } else {
+        0
     }
 }
 
-// Judge's answer with its ground where there is no list of powers: refused, or not crossed.
-fn without_powers(refusal: u64, kind: u64, vertex: u64, power: u64) -> GroundAnswer
-    ensures { result ≡ without_powers refusal kind vertex power }
-{
-    GroundAnswer {
-        refusal,
-        kind,
-        n: 0,
-        vertex,
-        power,
-        power0: 0,
-        power1: 0,
-        power2: 0,
-        power3: 0,
-    }
-}
+impl From<Result<NamedGround, Refusal>> for GroundAnswer {
+    ghost from_gives = { λ answer numbers. numbers ≡ ground_numbers (judged_by_as answer) };
 
-// The same where it is crossed.
-fn with_powers(n: u64, power0: u64, power1: u64, power2: u64, power3: u64) -> GroundAnswer
-    ensures { result ≡ with_powers n power0 power1 power2 power3 }
-{
-    GroundAnswer {
-        refusal: 0,
-        kind: 2,
-        n,
-        vertex: 0,
-        power: 0,
-        power0,
-        power1,
-        power2,
-        power3,
-    }
-}
-
-// Judge with its ground.
-pub fn ground_numbers(answer: JudgedBy) -> GroundAnswer
-    ensures { result ≡ ground_numbers (judged_by_as answer) }
-{
-    match answer {
-        JudgedBy::Refused(refusal) => without_powers(refusal, 0, 0, 0),
-        JudgedBy::ZeroDeterminant => without_powers(0, 0, 0, 0),
-        JudgedBy::Against { vertex, power } => without_powers(0, 1, vertex, power),
-        JudgedBy::Crossed2 { power0, power1 } => with_powers(2, power0, power1, 0, 0),
-        JudgedBy::Crossed3 {
-            power0,
-            power1,
-            power2,
-        } => with_powers(3, power0, power1, power2, 0),
-        JudgedBy::Crossed4 {
-            power0,
-            power1,
-            power2,
-            power3,
-        } => with_powers(4, power0, power1, power2, power3),
+    #[tactic(auto, unfolding(crate::specs::Numbers::ground_numbers, crate::specs::Numbers::without_powers, crate::specs::Numbers::with_powers, grounds::specs::Judged::named_as, grounds::specs::Judged::judged_by_as, paper::specs::Refusals::answer_by))]
+    fn from(answer: Result<NamedGround, Refusal>) -> GroundAnswer {
+        match answer {
+            Ok(NamedGround::ZeroDeterminant) => GroundAnswer::default(),
+            Ok(NamedGround::Against { vertex, power }) => GroundAnswer {
+                kind: 1,
+                vertex,
+                power,
+                ..GroundAnswer::default()
+            },
+            Ok(NamedGround::Crossed(named)) => GroundAnswer {
+                kind: 2,
+                // a `Powers` may say any count; four is all that it holds
+                n: named.n.min(4),
+                power0: power_of(named, 0),
+                power1: power_of(named, 1),
+                power2: power_of(named, 2),
+                power3: power_of(named, 3),
+                ..GroundAnswer::default()
+            },
+            Err(refusal) => GroundAnswer {
+                refusal: refusal.number(),
+                ..GroundAnswer::default()
+            },
+        }
     }
 }

@@ -1,5 +1,4 @@
--- Laws that the proofs of the functions cite, a file for each idea.
-pub mod DigitLaws
-pub mod DepthLaws
-pub mod ModeLaws
+-- Laws of the pass and of its modes and tokens, and the proofs of the code.
 pub mod PassLaws
+pub mod ModeLaws
+pub mod TokenLaws

@@ -1,6 +1,6 @@
 -- The pass answers as the reader does: what the reader holds decides nothing but where it stands and how many parentheses are open.
 use Prim.Native.Nat.{ℕ, suc, ◌+◌, ◌-◌, ◌≤◌, ◌<◌}
-use mathlib.Core.Path.{◌≡◌, refl}
+use mathlib.Core.Path.{◌≡◌, refl, sym, ◌∙◌}
 use mathlib.Core.Bool.{Bool, true, false, cond, ◌&&◌}
 use mathlib.Core.List.{List, [], ◌∷◌}
 use native.Mathlib.Omega.{arith}
@@ -48,11 +48,11 @@ steps_exponent p l ls true = power_read_lem
 steps_exponent p l ls false = outside
 
 -- a number may be followed by what an atom may, and by a digit
-digits_above : {m : ℕ} → m ≤ 6 → (k : ℕ) → leb m (digits_read k) ≡ true
+pub digits_above : {m : ℕ} → m ≤ 6 → (k : ℕ) → leb m (digits_read k) ≡ true
 unfolding digits_read
 digits_above {m} h k = le-leb m (6 + k) (omega arith)
 
-digits_no_atom : (k : ℕ) → expects_atom (digits_read k) ≡ false
+pub digits_no_atom : (k : ℕ) → expects_atom (digits_read k) ≡ false
 unfolding expects_atom digits_read atom_next sum_next
 digits_no_atom k = rw (le-leb 2 (6 + k) (omega arith), lt-leb (6 + k) 3 (omega arith))
 
@@ -163,6 +163,26 @@ pub pass_reads : (limit n : ℕ) (s : List ℕ) → formula_within limit n s ≡
 unfolding formula_within reading_of
 pass_reads limit n s = runs_as limit n s sum_next_lem
 
+-- ---- outside the language the pass stays outside
+
+still_outside : (limit depth : ℕ) (t : Token) → next_mode limit depth outside_mode t ≡ outside_mode
+unfolding next_mode after_digit only expects_atom outside_mode exponent_next atom_next sum_next power_read atom_read digits_read
+still_outside limit depth (digit d) = refl
+still_outside limit depth (variable a) = refl
+still_outside limit depth opening = refl
+still_outside limit depth closing = refl
+still_outside limit depth star = refl
+still_outside limit depth plus_sign = refl
+still_outside limit depth minus_sign = refl
+still_outside limit depth caret = refl
+still_outside limit depth foreign = refl
+
+outside_fails : (limit n depth : ℕ) (s : List ℕ) → pass_from limit n outside_mode depth s ≡ false
+unfolding pass_from power_read outside_mode
+outside_fails limit n depth [] = refl
+outside_fails limit n depth (b ∷ s) =
+    rw (still_outside limit depth (token n b)) (outside_fails limit n (next_depth limit depth (token n b)) s)
+
 -- ---- the pass over the bytes from i on
 
 -- it answers as the reader does on the whole text
@@ -180,6 +200,17 @@ module _ {limit n : ℕ} {text : List ℕ} {mode depth i : ℕ} (h : PassedTo li
   unfolding pass_from
   pass_next l e f = let next : i + 1 ≡ suc i = omega arith in record { rest = rw (e, f, next) (rw (drop-cons text i 0 l) at h.rest) }
 
-  pub pass_ends : length text ≤ i → (leb power_read mode && eqb depth 0) ≡ is_read (reading_of limit n text)
-  unfolding pass_from
-  pass_ends l = rw (drop_of_length-le text l) at h.rest
+  pub pass_outside : i < length text → outside_mode ≡ next_mode limit depth mode (token n (get_or text i 0)) → false ≡ is_read (reading_of limit n text)
+  pass_outside l e =
+      sym (outside_fails limit n (next_depth limit depth (token n (get_or text i 0))) (drop (i + 1) text)) ∙ (pass_next l e refl).rest
+
+  module _ {r : Bool} (is : r ≡ leb power_read mode) (last : length text ≤ i) where
+    pass_ends : (r && eqb depth 0) ≡ is_read (reading_of limit n text)
+    unfolding pass_from
+    pass_ends = rw is (rw (drop_of_length-le text last) at h.rest)
+
+    pub pass_ends_power : r ≡ true → eqb depth 0 ≡ is_read (reading_of limit n text)
+    pass_ends_power e = rw e at pass_ends
+
+    pub pass_ends_short : r ≡ false → r ≡ is_read (reading_of limit n text)
+    pass_ends_short e = e ∙ (rw e at pass_ends)

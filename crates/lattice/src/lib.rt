@@ -1,24 +1,28 @@
+// Vertices: moved up or down along the axes of a mask, and tested against the box.
+
 #![tactic(auto)]
 
-// Vertices: moved up or down along the axes of a mask, and tested against the box.
-ghost use Rattle.std.specs.Prelude.{◌≡◌, ◌+◌, ◌*◌, ◌%◌, pos, length};
-ghost use Rattle.exact.specs.Int.{◌⊕◌, ◌⊖◌};
-ghost use Rattle.exact.specs.Size.{Size, Is};
+ghost use Rattle.std.specs.Prelude.{◌≡◌, ◌+◌, ◌*◌, ◌<◌, length};
+ghost use Rattle.exact.specs.Size.{Size};
 ghost use Rattle.paper.specs.Values.{inside_from};
 ghost use Rattle.bits.specs.Axes.{Axes};
 ghost use Rattle.places.specs.Held.{vertex_as, VertexSize};
-ghost use Rattle.lattice.specs.Moves.{move_limit, Shifted, Lowered};
+ghost use Rattle.lattice.specs.Moves.{move_limit, moved_by, Shifted, Lowered};
 ghost use Rattle.lattice.specs.Box.{axis_inside};
 
 use bits::read;
-use places::Vertex;
+use paper::Vertex;
 
-// A coordinate moved by the lowest bit of a mask.
-fn plus_bit(x: i64, mask: u64) -> i64
-    requires { Size move_limit x }
-    ensures { Is (move_limit + 1) (x ⊕ pos (mask % 2)) result }
+// The vertex with a step, 1 or − 1, added on each axis of a mask.
+fn moved(v: Vertex, mask: u64, step: i64) -> Vertex
+    requires { (VertexSize move_limit v) × (Size 1 step) }
+    ensures { result.coordinates ≡ moved_by step v.coordinates mask }
 {
-    x + (mask % 2) as i64
+    let mut coordinates = v.coordinates;
+    for a in 0..4 {
+        coordinates[a] += step * (mask >> a & 1) as i64;
+    }
+    Vertex { coordinates }
 }
 
 // The vertex with 1 added on each axis of a mask.
@@ -26,19 +30,7 @@ pub fn shifted(v: Vertex, mask: u64) -> Vertex
     requires { VertexSize move_limit v }
     ensures { Shifted v mask result }
 {
-    let x = plus_bit(v.x, mask);
-    let y = plus_bit(v.y, mask / 2);
-    let z = plus_bit(v.z, mask / 2 / 2);
-    let w = plus_bit(v.w, mask / 2 / 2 / 2);
-    Vertex { x, y, z, w }
-}
-
-// A coordinate with the lowest bit of a mask taken off.
-fn minus_bit(x: i64, mask: u64) -> i64
-    requires { Size move_limit x }
-    ensures { Is (move_limit + 1) (x ⊖ pos (mask % 2)) result }
-{
-    x - (mask % 2) as i64
+    moved(v, mask, 1)
 }
 
 // The vertex with 1 taken off on each axis of a mask.
@@ -46,25 +38,15 @@ pub fn lowered(v: Vertex, mask: u64) -> Vertex
     requires { VertexSize move_limit v }
     ensures { Lowered v mask result }
 {
-    let x = minus_bit(v.x, mask);
-    let y = minus_bit(v.y, mask / 2);
-    let z = minus_bit(v.z, mask / 2 / 2);
-    let w = minus_bit(v.w, mask / 2 / 2 / 2);
-    Vertex { x, y, z, w }
+    moved(v, mask, -1)
 }
 
-// A coordinate lies from the low to the high end of an axis, both ends included; true from axis n on.
-fn axis_inside(bounds: &[u8], n: usize, axis: usize, x: i64) -> bool
-    requires { length bounds.now ≡ 4 * n }
-    ensures { result ≡ axis_inside bounds.now n axis x }
+// A coordinate lies from the low to the high end of an axis, both ends included.
+fn axis_inside(bounds: &[u8], axis: usize, x: i64) -> bool
+    requires { 4 * axis + 3 < length bounds.now }
+    ensures { result ≡ axis_inside bounds.now axis x }
 {
-    if n <= axis {
-        return true;
-    }
-    if read::signed_word(bounds, 4 * axis) <= x {
-        return x <= read::signed_word(bounds, 4 * axis + 2);
-    }
-    false
+    read::signed_word(bounds, 4 * axis) <= x && x <= read::signed_word(bounds, 4 * axis + 2)
 }
 
 // A vertex lies in the box.
@@ -72,14 +54,5 @@ pub fn inside(bounds: &[u8], n: usize, v: Vertex) -> bool
     requires { (Axes n) × (length bounds.now ≡ 4 * n) }
     ensures { result ≡ inside_from bounds.now 0 (vertex_as n v) }
 {
-    if !axis_inside(bounds, n, 0, v.x) {
-        return false;
-    }
-    if !axis_inside(bounds, n, 1, v.y) {
-        return false;
-    }
-    if !axis_inside(bounds, n, 2, v.z) {
-        return false;
-    }
-    axis_inside(bounds, n, 3, v.w)
+    (0..n).all(|axis| axis_inside(bounds, axis, v.coordinates[axis]))
 }

@@ -1,14 +1,14 @@
 -- Parts laid one behind another are laid as one.
-use Prim.Native.Nat.{ℕ, suc, zero, ◌+◌, ◌-◌, ◌≤◌, ◌<◌}
+use Prim.Native.Nat.{ℕ, suc, zero, ◌+◌, ◌-◌, ◌%◌, ◌/◌, ◌≤◌, ◌<◌}
 use native.Mathlib.Omega.{arith}
-use native.Mathlib.Numerals.{unary_clauses}
 use mathlib.Core.Path.{◌≡◌, refl, sym, ap, subst, ◌∙◌}
 use mathlib.Core.List.{List, [], ◌∷◌, ◌++◌}
 use lib.IntN.{pos}
-use lib.ListN.{length, set, length-append}
+use lib.ListN.{length, length-append}
+use borrow.Rule.Slice.PartMut.{put_mid}
 use lib.Seq.{sets, length-sets}
-use Rattle.paper.specs.Bytes.{word_bytes}
-use Rattle.bits.proofs.Sets.{sets_append}
+use Rattle.paper.specs.Bytes.{word_of, word_bytes}
+use Rattle.bits.proofs.Sets.{sets_append, filled}
 use Rattle.assembly.specs.Assembled.{entries_of, bodies_of}
 use Rattle.assembly.proofs.Lengths.{bodies_snoc, entries_snoc}
 use Rattle.laying.specs.Laid.{Laid}
@@ -28,10 +28,17 @@ laid_behind {b} {c} {d} {us} {vs} {at} {m} {r} p q = record {
 pub laid_long : {b c us : List ℕ} {at m : ℕ} → Laid b at us c m → length c ≡ length b
 laid_long {b} {c} {us} {at} p = ap length p.buffer ∙ length-sets b at us
 
--- four bytes, one after the other
-pub four_laid : (b : List ℕ) (at x y z w : ℕ)
-    → Laid b at (x ∷ y ∷ z ∷ w ∷ []) (set (set (set (set b at x) (at + 1) y) (at + 2) z) (at + 3) w) (at + 4)
-four_laid b at x y z w = record { position = refl; buffer = simp unary_clauses refl }
+-- a part of a buffer filled with bytes
+pub part_laid : {us part : List ℕ} {m next : ℕ} (b : List ℕ) (at : ℕ) → part ≡ us → m ≡ length us → next ≡ at + length us → at + length us ≤ length b
+    → Laid b at us (put_mid at m b part) next
+part_laid {us} {part} {m} {next} b at e h g l =
+    let same : length part ≡ length us = ap length e in
+    record { position = g; buffer = filled b part at m (omega arith) (omega arith) ∙ ap (sets b at) e }
+
+-- the two bytes of the low 16 bits of a number
+pub word_digits : (a : ℕ) → a % 65536 % 256 ∷ a % 65536 / 256 % 256 ∷ [] ≡ word_bytes (pos a)
+unfolding word_bytes word_of
+word_digits a = let high : a % 65536 / 256 % 256 ≡ a % 65536 / 256 = omega arith in ap (λ y. a % 65536 % 256 ∷ y ∷ []) high
 
 -- the first k + 1 bodies and entries
 bodies_next : (f : ℕ → List ℕ) (k : ℕ) → bodies_of f 0 (k + 1) ≡ bodies_of f 0 k ++ f k

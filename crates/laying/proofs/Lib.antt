@@ -1,4 +1,3 @@
 -- Laws of bytes laid in a buffer one part behind another.
-pub mod Sets
 pub mod Behind
 pub mod BodyRead

@@ -1,5 +1,7 @@
 // The parts of a job laid in a buffer from a position on: contents and bodies. Each function answers the position behind what it laid. Bodies come as
-// an array, body k at index k: box, polynomials, start; those past index n are not read.
+// an array, body k at index k: box, polynomials, start; those past index n are not read. Kept as an array with n beside it, not a slice of n + 1: no
+// law then has a hypothesis on the length of a list (docs/DECISIONS.md), and nothing is shorter with the slice. Buffer and
+// position stay two parameters, as in `decimals`.
 
 #![tactic(auto)]
 
@@ -14,8 +16,7 @@ fn lay_word(buffer: &mut [u8], at: usize, word: usize) -> usize
     requires { at + 2 ≤ length buffer.old }
     ensures { Laid buffer.old at (word_bytes (pos word)) buffer.new result }
 {
-    buffer[at] = (word % 256) as u8;
-    buffer[at + 1] = (word / 256 % 256) as u8;
+    buffer[at..at + 2].copy_from_slice(&((word % 65536) as u16).to_le_bytes());
     at + 2
 }
 
@@ -26,13 +27,11 @@ fn lay_entries(buffer: &mut [u8], at: usize, n: usize, bodies: [&[u8]; 5]) -> us
 {
     let mut next = at;
     let mut offset = 4 * n + 8;
-    let mut k = 0;
-    while k < n + 1 {
-        let body = bodies[k];
+    for k in 0..n + 1 {
+        let length = bodies[k].len();
         let middle = lay_word(buffer, next, offset);
-        next = lay_word(buffer, middle, body.len());
-        offset += body.len();
-        k += 1;
+        next = lay_word(buffer, middle, length);
+        offset += length;
     }
     next
 }
@@ -42,24 +41,18 @@ pub fn lay_contents(buffer: &mut [u8], at: usize, n: usize, bias: u8, bodies: [&
     requires { (n ≤ 4) × (at + length (job_from n bias (body_at bodies)) ≤ length buffer.old) }
     ensures { Laid buffer.old at (contents_of n bias (body_at bodies.entry)) buffer.new result }
 {
-    buffer[at] = 1;
-    buffer[at + 1] = n as u8;
-    buffer[at + 2] = (n + 1) as u8;
-    buffer[at + 3] = bias;
+    buffer[at..at + 4].copy_from_slice(&[1, n as u8, (n + 1) as u8, bias]);
     lay_entries(buffer, at + 4, n, bodies)
 }
 
-// A body.
+// A body. As `decimals::put_word`, but it says what the whole buffer then is.
 fn lay_body(buffer: &mut [u8], at: usize, body: &[u8]) -> usize
     requires { at + length body.now ≤ length buffer.old }
     ensures { Laid buffer.old at body.now buffer.new result }
 {
-    let mut i = 0;
-    while i < body.len() {
-        buffer[at + i] = body[i];
-        i += 1;
-    }
-    at + i
+    let end = at + body.len();
+    buffer[at..end].copy_from_slice(body);
+    end
 }
 
 // The bodies of a job, one behind the other.
@@ -68,10 +61,8 @@ pub fn lay_bodies(buffer: &mut [u8], at: usize, n: usize, bodies: [&[u8]; 5]) ->
     ensures { Laid buffer.old at (bodies_of (body_at bodies.entry) 0 (n + 1)) buffer.new result }
 {
     let mut next = at;
-    let mut k = 0;
-    while k < n + 1 {
+    for k in 0..n + 1 {
         next = lay_body(buffer, next, bodies[k]);
-        k += 1;
     }
     next
 }

@@ -1,32 +1,30 @@
 -- A facet's two walks, both from it and each to one side: what they meet decides whether it is the least of its seam.
-use Prim.Native.Nat.{ℕ, ◌≤◌, ◌<◌}
+use Prim.Native.Nat.{ℕ}
 use native.Mathlib.Omega.{arith}
-use mathlib.Core.Path.{◌≡◌, refl, sym, ap, ap₂, subst, ◌∙◌}
+use mathlib.Core.Path.{◌≡◌, sym, ap, ap₂, subst, ◌∙◌}
 use mathlib.Core.Bool.{Bool, true, false, ◌&&◌, and-true, and-false}
 use mathlib.Core.List.{List}
 use lib.IntN.{ℤ}
 use lib.ListN.{length}
-use Rattle.curves.specs.Grid.{Facet, Place, turn, facet_vertices}
+use Rattle.curves.specs.Grid.{Facet, Place, turn}
 use Rattle.curves.specs.Walk.{loop, full, trace}
 use Rattle.exact.specs.Crossed.{crossed}
 use Rattle.curves.specs.Step.{crossed_facet}
 use Rattle.curves.specs.Joined.{Traceable}
-use Rattle.curves.specs.GridDemand.{trace_of}
 use Rattle.curves.proofs.GridStep.{accepted, turn_traceable}
 use Rattle.paper.specs.Job.{dimension}
 use Rattle.paper.specs.Values.{field_of}
 use Rattle.paper.specs.Operations.{step_in, on_same_facet}
-use Rattle.paper.proofs.Opens.{Opens, opens_range}
+use Rattle.paper.proofs.Opens.{opens_range}
 use Rattle.places.specs.Held.{facet_as, place_as, VertexSize}
-use Rattle.places.specs.declared.HeldPlace.{HeldPlace}
-use Rattle.job.specs.OpenJob.{JobOf}
-use Rattle.job.proofs.OpenJob.{job_opens}
+use Rattle.paper.specs.declared.HeldPlace.{HeldPlace}
+use Rattle.job.proofs.Opened.{job_opens}
 use Rattle.determinants.specs.Cells.{facet_columns}
 use Rattle.step.specs.Held.{held_limit, Held}
 use Rattle.carried.specs.declared.Entered.{Entered}
-use Rattle.carried.specs.Carries.{Carries, Enters}
+use Rattle.carried.specs.Carries.{Enters}
 use Rattle.carried.proofs.CarriedStep.{enters_carries}
-use Rattle.seamlist.specs.Seams.{facet_before, front, none_before, least_test}
+use Rattle.seamlist.specs.Seams.{facet_before, front, least_test}
 use Rattle.seamlist.specs.JobSeams.{job_facets}
 use Rattle.seamlist.proofs.Room.{job_room_lem}
 use Rattle.seamlist.proofs.LeastTest.{job_least_tested, loop_least}

@@ -1,103 +1,65 @@
--- The order of two facets, number by number: those that count decide from the first on.
-use Prim.Native.Nat.{ℕ, ◌-◌, ◌≤◌, ◌<◌}
-use mathlib.Core.Path.{◌≡◌, refl, sym, ap, ap₂, ◌∙◌}
-use mathlib.Core.Bool.{Bool, true, false}
-use mathlib.Core.List.{◌++◌, map}
-use lib.IntN.{ℤ, pos}
-use lib.Dec.{leb}
-use lib.Signed.{le_z}
-use mir.Syntax.{w64}
-use mir.Val.{SFits}
-use mir.ValLaws.{to_z-of_z}
-use borrow.Author.Tests.{le-leb, lt-leb}
-use Rattle.exact.proofs.Bits.{back}
-use Rattle.bits.specs.Axes.{Axes}
-use Rattle.bits.proofs.EachDimension.{each_axes}
-use Rattle.places.specs.Held.{counted, vertex_as, masks_as, facet_as}
-use Rattle.places.specs.declared.Vertex.{Vertex}
-use Rattle.places.specs.declared.HeldPlace.{HeldPlace}
-use Rattle.places.proofs.Counted.{number_counts, number_absent}
-use Rattle.places.proofs.VertexBack.{held_back}
+-- The order of two facets is that of their numbers as lists: the coordinates, and if they are the same, the masks.
+use Rattle.std.proofs.Common.{◌≡◌, ℕ, ◌-◌, Bool, true, false, cond, List, [], ◌∷◌, ◌++◌, map, length, take, ℤ, pos, ◌<ℤ◌, refl, ap, sym, ◌∙◌, arith}
+use Rattle.std.specs.Int.Signed.{le_z}
+use Rattle.std.specs.Ordering.{is_lt, ordering_then, int_cmp, nat_cmp, MatchOrdering}
+use Rattle.std.specs.declared.cmp.Ordering.{Ordering}
+use Rattle.std.specs.declared.cmp.Ordering.TheVariants.{Less, Equal, Greater}
+use Rattle.std.specs.Cmp.{int_ranks}
+use Rattle.std.specs.Cmp.Lexicographic.{slice_cmp}
+use Rattle.std.proofs.lemmas.Int.{ints}
+use Rattle.std.proofs.lemmas.Bool.Decides.{nat_tests}
+use Rattle.paper.specs.declared.HeldPlace.{HeldPlace}
+use Rattle.places.specs.Held.{vertex_as, masks_as, facet_as}
 use Rattle.seamlist.specs.Seams.{lex_before, facet_key, facet_before}
-use Rattle.least.specs.Order.{decides, decides_mask}
 
 -- ---- one number
 
--- a coordinate that counts, compared by its bits
-module _ (n a : ℕ) (c : a < n) (x y : ℤ) (behind : Bool) (f : SFits w64 x) (g : SFits w64 y) where
-  coordinate_counts : decides (back x) (back y) behind ≡ counted behind n a (decides x y behind)
-  coordinate_counts =
-      ap₂ (λ u v. decides u v behind) (to_z-of_z w64 x f) (to_z-of_z w64 y g) ∙ number_counts behind n a (decides x y behind) c
+ranked : (x y : ℤ) (r : Ordering) → MatchOrdering r (x <ℤ y) (x ≡ y) (y <ℤ x) → (o : Ordering) (b : Bool) → b ≡ is_lt o
+    → cond (le_z x y) (cond (le_z y x) b true) false ≡ is_lt (ordering_then r o)
+ranked x y Less h o b e = grind (arith, ints)
+ranked x y Equal h o b e = grind (arith, ints)
+ranked x y Greater h o b e = grind (arith, ints)
 
-  pub coordinate_same : le_z (back x) (back y) ≡ true → le_z (back y) (back x) ≡ true → behind ≡ counted behind n a (decides x y behind)
-  unfolding decides
-  coordinate_same h k = rw (← coordinate_counts, h, k)
+-- the smaller decides, and if they are the same, what comes behind
+decided : (x y : ℤ) (o : Ordering) (b : Bool) → b ≡ is_lt o → cond (le_z x y) (cond (le_z y x) b true) false ≡ is_lt (ordering_then (int_cmp x y) o)
+decided x y o b e = ranked x y (int_cmp x y) (int_ranks x y) o b e
 
-  pub coordinate_less : le_z (back x) (back y) ≡ true → le_z (back y) (back x) ≡ false → true ≡ counted behind n a (decides x y behind)
-  unfolding decides
-  coordinate_less h k = rw (← coordinate_counts, h, k)
+-- ---- the masks
 
-  pub coordinate_more : le_z (back x) (back y) ≡ false → false ≡ counted behind n a (decides x y behind)
-  unfolding decides
-  coordinate_more h = rw (← coordinate_counts, h)
+same_order : (x y : ℕ) → int_cmp (pos x) (pos y) ≡ nat_cmp x y
+same_order x y = grind (arith, nat_tests)
 
--- a mask that counts
-module _ (count k : ℕ) (c : k < count) (l m : ℕ) (behind : Bool) where
-  mask_counts : decides_mask l m behind ≡ counted behind count k (decides_mask l m behind)
-  mask_counts = number_counts behind count k (decides_mask l m behind) c
-
-  pub mask_same : l ≤ m → m ≤ l → behind ≡ counted behind count k (decides_mask l m behind)
-  unfolding decides_mask
-  mask_same h i = rw (← mask_counts, le-leb l m h, le-leb m l i)
-
-  pub mask_less : l ≤ m → l < m → true ≡ counted behind count k (decides_mask l m behind)
-  unfolding decides_mask
-  mask_less h i = rw (← mask_counts, le-leb l m h, lt-leb m l i)
-
-  pub mask_more : m < l → false ≡ counted behind count k (decides_mask l m behind)
-  unfolding decides_mask
-  mask_more h = rw (← mask_counts, lt-leb l m h)
+masks_before : (l m : List ℕ) → lex_before (map pos l) (map pos m) ≡ is_lt (slice_cmp nat_cmp l m)
+unfolding lex_before
+masks_before [] [] = refl
+masks_before [] (y ∷ m) = refl
+masks_before (x ∷ l) [] = refl
+masks_before (x ∷ l) (y ∷ m) =
+    decided (pos x) (pos y) (slice_cmp nat_cmp l m) (lex_before (map pos l) (map pos m)) (masks_before l m)
+    ∙ ap (λ o. is_lt (ordering_then o (slice_cmp nat_cmp l m))) (same_order x y)
 
 -- ---- all of them
 
-module _ (p q : HeldPlace) (u v : Vertex) (n : ℕ) where
-  -- each mask and each coordinate, with all that comes behind it
-  abbrev from_third : Bool
-  from_third = counted false (n - 1) 2 (decides_mask p.mask3 q.mask3 false)
+then_again : (q r s : Ordering) → ordering_then (ordering_then q r) s ≡ ordering_then q (ordering_then r s)
+then_again Less r s = refl
+then_again Equal r s = refl
+then_again Greater r s = refl
 
-  abbrev from_second : Bool
-  from_second = counted from_third (n - 1) 1 (decides_mask p.mask2 q.mask2 from_third)
+numbers_before : (v w : List ℤ) (l m : List ℕ) → length v ≡ length w
+    → is_lt (ordering_then (slice_cmp int_cmp v w) (slice_cmp nat_cmp l m)) ≡ lex_before (v ++ map pos l) (w ++ map pos m)
+unfolding lex_before
+numbers_before [] [] l m h = sym (masks_before l m)
+numbers_before [] (y ∷ w) l m h = absurd (omega arith)
+numbers_before (x ∷ v) [] l m h = absurd (omega arith)
+numbers_before (x ∷ v) (y ∷ w) l m h =
+    ap is_lt (then_again (int_cmp x y) (slice_cmp int_cmp v w) (slice_cmp nat_cmp l m))
+    ∙ sym
+    (decided x y (ordering_then (slice_cmp int_cmp v w) (slice_cmp nat_cmp l m)) (lex_before (v ++ map pos l) (w ++ map pos m))
+    (sym (numbers_before v w l m (omega arith))))
 
-  abbrev from_first : Bool
-  from_first = counted from_second (n - 1) 0 (decides_mask p.mask1 q.mask1 from_second)
-
-  abbrev from_w : Bool
-  from_w = counted from_first n 3 (decides u.w v.w from_first)
-
-  abbrev from_z : Bool
-  from_z = counted from_w n 2 (decides u.z v.z from_w)
-
-  abbrev from_y : Bool
-  from_y = counted from_z n 1 (decides u.y v.y from_z)
-
-  abbrev from_x : Bool
-  from_x = counted from_y n 0 (decides u.x v.x from_y)
-
-each_decides : (p q : HeldPlace) (u v : Vertex) (n : ℕ) → Axes n
-    → from_x p q u v n ≡ lex_before (vertex_as n u ++ map pos (masks_as n p)) (vertex_as n v ++ map pos (masks_as n q))
-unfolding counted decides decides_mask lex_before vertex_as masks_as
-each_decides p q u v = each_axes _ refl refl refl
-
-pub facet_compared : (p q : HeldPlace) (n : ℕ) {x y z w first second third : Bool} → Axes n → held_back p.low ≡ p.low → held_back q.low ≡ q.low
-    → third ≡ counted false (n - 1) 2 (decides_mask p.mask3 q.mask3 false)
-    → second ≡ counted third (n - 1) 1 (decides_mask p.mask2 q.mask2 third)
-    → first ≡ counted second (n - 1) 0 (decides_mask p.mask1 q.mask1 second)
-    → w ≡ counted first n 3 (decides (back p.low.w) (back q.low.w) first)
-    → z ≡ counted w n 2 (decides (back p.low.z) (back q.low.z) w)
-    → y ≡ counted z n 1 (decides (back p.low.y) (back q.low.y) z)
-    → x ≡ counted y n 0 (decides (back p.low.x) (back q.low.x) y)
-    → x ≡ facet_before (facet_as n p) (facet_as n q)
-unfolding facet_before facet_key facet_as held_back
-facet_compared p q n a f g e3 e2 e1 ew ez ey ex =
-    rw (ex, ey, ez, ew, e1, e2, e3) (each_decides p q (held_back p.low) (held_back q.low) n a)
-    ∙ ap₂ (λ u v. lex_before (vertex_as n u ++ map pos (masks_as n p)) (vertex_as n v ++ map pos (masks_as n q))) f g
+pub facets_compared : (n : ℕ) (p q : HeldPlace) → length (take n p.low.coordinates) ≡ length (take n q.low.coordinates)
+    → is_lt
+    (ordering_then (slice_cmp int_cmp (take n p.low.coordinates) (take n q.low.coordinates)) (slice_cmp nat_cmp (take (n - 1) p.masks) (take (n - 1) q.masks)))
+    ≡ facet_before (facet_as n p) (facet_as n q)
+unfolding facet_before facet_key facet_as vertex_as masks_as
+facets_compared n p q h = numbers_before (take n p.low.coordinates) (take n q.low.coordinates) (take (n - 1) p.masks) (take (n - 1) q.masks) h

@@ -2,8 +2,9 @@
 use Prim.Native.Nat.{ℕ}
 use native.Mathlib.Omega.{arith}
 use mathlib.Core.Path.{◌≡◌, ap, ◌∙◌}
-use mathlib.Core.Bool.{true, false, not}
+use mathlib.Core.Bool.{true, false}
 use mathlib.Core.List.{List, ◌∷◌}
+use Rattle.std.proofs.Common.{Err}
 use lib.IntN.{ℤ}
 use lib.ListN.{length}
 use Rattle.curves.specs.Grid.{Facet, Place}
@@ -13,14 +14,15 @@ use Rattle.paper.specs.Operations.{step_in, on_same_facet}
 use Rattle.paper.specs.Answers.{verdict_as}
 use Rattle.paper.specs.declared.Verdict as Code
 use Rattle.places.specs.Held.{place_as}
-use Rattle.places.specs.declared.HeldPlace.{HeldPlace}
+use Rattle.paper.specs.declared.HeldPlace.{HeldPlace}
 use Rattle.carried.specs.declared.Entered.{Entered}
 use Rattle.ahead.specs.Visited.{GoesOn}
 use Rattle.seamlist.specs.Seams.{facet_before, none_before}
 use Rattle.seamlist.specs.JobSeams.{job_facets}
 use Rattle.seamlist.specs.WholeTrace.{rest_from}
 use Rattle.seamlist.proofs.WholeTrace.{ends_here, goes_on_to, begins}
-use Rattle.least.specs.Search.{clear_from, Walks, LeadsOn, SoughtIs, over_as}
+use Rattle.least.specs.Search.{clear_from, Walks, LeadsOn, SoughtIs}
+use Rattle.least.specs.Ends.{end_of}
 
 -- ---- one turn
 
@@ -47,11 +49,11 @@ module _ {s : List ℕ} {n : ℕ} {start : HeldPlace} {here : Entered} {cells : 
 
   pub seeks_over : (v : Code.Verdict) (after : List ℤ)
       → ((rest : Place → Trace Place Stop) → after_step on_same_facet rest first x (step_in s x) ≡ ended x (verdict_as v))
-      → SoughtIs s n start x (over_as v) after
-  unfolding over_as verdict_as rest_from clear_from
+      → SoughtIs s n start x (Err (end_of v)) after
+  unfolding verdict_as rest_from clear_from
   seeks_over v after e = by_verdict v (ends_here (step_in s) on_same_facet first (length (job_facets s)) x w.not_full e)
     where
-      by_verdict : (v : Code.Verdict) → rest_from s first x ≡ ended x (verdict_as v) → SoughtIs s n start x (over_as v) after
+      by_verdict : (v : Code.Verdict) → rest_from s first x ≡ ended x (verdict_as v) → SoughtIs s n start x (Err (end_of v)) after
       by_verdict Code.TheVariants.Loop k =
           (ap (λ (t : Trace Place Stop). t.verdict) k, ap (none_before first.facet) k ∙ clear_ended first.facet x loop w.not_before_lem)
       by_verdict Code.TheVariants.Edge k = ap (none_before first.facet) k ∙ clear_ended first.facet x _ w.not_before_lem

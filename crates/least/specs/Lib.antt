@@ -1,3 +1,3 @@
 -- What the contracts of this crate cite, beside the definitions of the crates below.
-pub mod Order
+pub mod Ends
 pub mod Search

@@ -1,14 +1,13 @@
 -- A walk along a curve that looks for a facet before that of its start, as the code makes it: it ends where the trace with space for the whole box
 -- ends, or when it has met one.
-use Rattle.std.specs.Prelude.{ℕ, ◌<◌, ◌≡◌, Bool, true, false, List, ℤ, length}
+use Rattle.std.specs.Prelude.{ℕ, ◌<◌, ◌≡◌, Bool, true, false, List, ℤ, length, Result, Ok, Err}
 use Rattle.curves.specs.Grid.{Facet, Place, facet_vertices}
 use Rattle.curves.specs.Walk.{loop, full}
 use Rattle.curves.specs.Step.{columns}
 use Rattle.paper.specs.Job.{dimension}
 use Rattle.paper.specs.Values.{field_of}
-use Rattle.paper.specs.declared.Verdict as Verdict
 use Rattle.places.specs.Held.{place_as}
-use Rattle.places.specs.declared.HeldPlace.{HeldPlace}
+use Rattle.paper.specs.declared.HeldPlace.{HeldPlace}
 use Rattle.determinants.specs.Cells.{Cells, facet_columns}
 use Rattle.step.specs.Held.{Held}
 use Rattle.carried.specs.declared.Entered.{Entered}
@@ -16,7 +15,7 @@ use Rattle.carried.specs.Carries.{Carries}
 use Rattle.seamlist.specs.Seams.{facet_before, none_before, least_test}
 use Rattle.seamlist.specs.JobSeams.{job_facets}
 use Rattle.seamlist.specs.WholeTrace.{rest_from}
-use Rattle.least.specs.declared.search.Sought as Code
+use Rattle.least.specs.declared.search.End as Code
 
 -- the facet is the least of its seam
 unfoldable pub least_in : List ℕ → Facet → Bool
@@ -40,18 +39,11 @@ pub record LeadsOn (s : List ℕ) (start x y : Place) : Type 0 where
   pub shorter : length (rest_from s start y).places < length (rest_from s start x).places
 
 -- what one turn tells of the rest of the trace from x
-abbrev pub SoughtIs : List ℕ → ℕ → HeldPlace → Place → Code.Sought → List ℤ → Type 0
-SoughtIs s n start x Code.TheVariants.Before cells = clear_from s (place_as n start) x ≡ false
-SoughtIs s n start x Code.TheVariants.Closed cells = ((rest_from s (place_as n start) x).verdict ≡ loop) × (clear_from s (place_as n start) x ≡ true)
-SoughtIs s n start x Code.TheVariants.Ended cells = clear_from s (place_as n start) x ≡ true
-SoughtIs s n start x (Code.TheVariants.On q) cells = LeadsOn s (place_as n start) x (place_as n q.place) × Walks s n start q cells
-
--- how a walk that is over has ended
-unfoldable pub over_as : Verdict.Verdict → Code.Sought
-over_as Verdict.TheVariants.Loop = Code.TheVariants.Closed
-over_as Verdict.TheVariants.Edge = Code.TheVariants.Ended
-over_as Verdict.TheVariants.Limit = Code.TheVariants.Ended
-over_as Verdict.TheVariants.Full = Code.TheVariants.Ended
+abbrev pub SoughtIs : List ℕ → ℕ → HeldPlace → Place → Result Entered Code.End → List ℤ → Type 0
+SoughtIs s n start x (Ok q) cells = LeadsOn s (place_as n start) x (place_as n q.place) × Walks s n start q cells
+SoughtIs s n start x (Err Code.TheVariants.Before) cells = clear_from s (place_as n start) x ≡ false
+SoughtIs s n start x (Err Code.TheVariants.Closed) cells = ((rest_from s (place_as n start) x).verdict ≡ loop) × (clear_from s (place_as n start) x ≡ true)
+SoughtIs s n start x (Err Code.TheVariants.Ended) cells = clear_from s (place_as n start) x ≡ true
 
 -- the cells hold the columns of the facet's vertices
 pub record HoldsFacet (s : List ℕ) (n : ℕ) (f : Facet) (cells : List ℤ) : Type 0 where

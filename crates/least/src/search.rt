@@ -6,73 +6,60 @@ ghost use Rattle.std.specs.Prelude.{◌≡◌, ℕ, ◌≤◌};
 ghost use Rattle.curves.specs.Grid.{turn};
 ghost use Rattle.places.specs.Held.{facet_as, place_as};
 ghost use Rattle.step.specs.Held.{Held};
-ghost use Rattle.least.specs.Search.{least_in, clear_from, Walks, SoughtIs, over_as, HoldsFacet};
+ghost use Rattle.least.specs.Search.{least_in, clear_from, Walks, SoughtIs, HoldsFacet};
+ghost use Rattle.least.specs.Ends.{end_of};
 
 use crate::order;
-use ahead::Visited;
 use carried::Entered;
-use paper::Verdict;
-use places::HeldPlace;
+use job::OpenJob;
+use paper::{HeldPlace, Verdict};
 
-// After a turn: a facet before the start's is met, the walk is back at the start, it has ended, or it goes on.
-#[derive(Clone, Copy)]
-pub enum Sought {
+// How a walk is over: a facet before the start's is met, the walk is back at the start, or it has ended.
+#[derive(Clone, Copy, Debug, PartialEq, Eq)]
+pub enum End {
     Before,
     Closed,
     Ended,
-    On(Entered),
 }
 
-// How a walk that is over has ended.
-fn over(verdict: Verdict) -> Sought
-    ensures { result ≡ over_as verdict }
-{
-    match verdict {
-        Verdict::Loop => Sought::Closed,
-        Verdict::Edge => Sought::Ended,
-        Verdict::Limit => Sought::Ended,
-        Verdict::Full => Sought::Ended,
-    }
-}
+impl From<Verdict> for End {
+    ghost from_gives = { λ verdict end. end ≡ end_of verdict };
 
-// One turn of a walk.
-fn seek(job: &[u8], n: usize, start: HeldPlace, here: Entered, cells: &mut [i64; 15]) -> Sought
-    requires { Walks job.now n start here cells.old }
-    ensures { SoughtIs job.now n start (place_as n here.place) result cells.new }
-{
-    let after = ahead::look_ahead(job, n, start, here, cells);
-    match after {
-        Visited::Over(verdict) => over(verdict),
-        Visited::Next(next) => {
-            if order::facet_before(n, next.place, start) {
-                return Sought::Before;
-            }
-            Sought::On(next)
+    fn from(verdict: Verdict) -> End {
+        match verdict {
+            Verdict::Loop => End::Closed,
+            Verdict::Edge | Verdict::Limit | Verdict::Full => End::Ended,
         }
     }
 }
 
+// One turn of a walk.
+fn seek(
+    job: OpenJob<'_>,
+    start: HeldPlace,
+    here: Entered,
+    cells: &mut [i64; 15],
+) -> Result<Entered, End>
+    requires { Walks job.bytes.now job.n start here cells.old }
+    ensures { SoughtIs job.entry.bytes.now job.entry.n start (place_as job.entry.n here.place) result cells.new }
+{
+    let next = ahead::look_ahead(job, start, here, cells)?;
+    if order::facet_before(job.n, next.place, start) {
+        return Err(End::Before);
+    }
+    Ok(next)
+}
+
 // One walk to its end: it meets no facet before its start's.
-fn rest_clear(job: &[u8], n: usize, start: HeldPlace, from: Entered, cells: &mut [i64; 15]) -> bool
-    requires { Walks job.now n start from cells.old }
-    ensures { result ≡ clear_from job.now (place_as n start) (place_as n from.place) }
+fn rest_clear(job: OpenJob<'_>, start: HeldPlace, from: Entered, cells: &mut [i64; 15]) -> bool
+    requires { Walks job.bytes.now job.n start from cells.old }
+    ensures { result ≡ clear_from job.entry.bytes.now (place_as job.entry.n start) (place_as job.entry.n from.place) }
 {
     let mut here = from;
     loop {
-        let after = seek(job, n, start, here, cells);
-        match after {
-            Sought::Before => {
-                return false;
-            }
-            Sought::Closed => {
-                return true;
-            }
-            Sought::Ended => {
-                return true;
-            }
-            Sought::On(next) => {
-                here = next;
-            }
+        match seek(job, start, here, cells) {
+            Ok(next) => here = next,
+            Err(end) => return end != End::Before,
         }
     }
 }
@@ -82,62 +69,32 @@ fn turned(p: HeldPlace) -> HeldPlace
     requires { p.side ≤ 1 }
     ensures { ((n : ℕ) → place_as n result ≡ turn (place_as n p)) × (result.low ≡ p.low) }
 {
-    let low = p.low;
     HeldPlace {
-        low,
-        mask1: p.mask1,
-        mask2: p.mask2,
-        mask3: p.mask3,
         side: 1 - p.side,
+        ..p
     }
 }
 
 // A crossed facet, given with side 0 and its columns twice, is the least of its seam. Where the curve closes, the first walk is back first, so that
 // the second's closing needs no answer of its own.
-pub fn is_least(
-    job: &[u8],
-    n: usize,
-    p: HeldPlace,
-    front: &mut [i64; 15],
-    back: &mut [i64; 15],
-) -> bool
-    requires held { (Held job.now n p) × (p.side ≡ 0) }
-    requires holds_facet { (HoldsFacet job.now n (facet_as n p) front.old) × (HoldsFacet job.now n (facet_as n p) back.old) }
-    ensures { result ≡ least_in job.now (facet_as n p) }
+pub fn is_least(job: OpenJob<'_>, p: HeldPlace, front: &mut [i64; 15], back: &mut [i64; 15]) -> bool
+    requires held { (Held job.bytes.now job.n p) × (p.side ≡ 0) }
+    requires holds_facet { (HoldsFacet job.bytes.now job.n (facet_as job.n p) front.old) × (HoldsFacet job.bytes.now job.n (facet_as job.n p) back.old) }
+    ensures { result ≡ least_in job.entry.bytes.now (facet_as job.entry.n p) }
 {
     let q = turned(p);
-    let mut ahead = carried::enter(n, p, front);
-    let mut behind = carried::enter(n, q, back);
+    let mut ahead = carried::enter(job.n, p, front);
+    let mut behind = carried::enter(job.n, q, back);
     loop {
-        let first = seek(job, n, p, ahead, front);
-        match first {
-            Sought::Before => {
-                return false;
-            }
-            Sought::Closed => {
-                return true;
-            }
-            Sought::Ended => {
-                return rest_clear(job, n, q, behind, back);
-            }
-            Sought::On(next) => {
-                ahead = next;
-            }
+        match seek(job, p, ahead, front) {
+            Ok(next) => ahead = next,
+            Err(End::Before) => return false,
+            Err(End::Closed) => return true,
+            Err(End::Ended) => return rest_clear(job, q, behind, back),
         }
-        let second = seek(job, n, q, behind, back);
-        match second {
-            Sought::Before => {
-                return false;
-            }
-            Sought::Closed => {
-                return rest_clear(job, n, p, ahead, front);
-            }
-            Sought::Ended => {
-                return rest_clear(job, n, p, ahead, front);
-            }
-            Sought::On(next) => {
-                behind = next;
-            }
+        match seek(job, q, behind, back) {
+            Ok(next) => behind = next,
+            Err(end) => return end != End::Before && rest_clear(job, p, ahead, front),
         }
     }
 }

@@ -8,19 +8,17 @@ use mathlib.Core.List.{List}
 use lib.IntN.{ℤ}
 use lib.ListN.{length}
 use Rattle.curves.specs.Grid.{Place}
-use Rattle.curves.specs.Walk.{Trace, ended, written, full, after_step, trace}
+use Rattle.curves.specs.Walk.{Trace, ended, written, full, after_step}
 use Rattle.curves.specs.Step.{Stop}
 use Rattle.curves.specs.Joined.{Traceable}
 use Rattle.curves.proofs.WalkTrace.{trace_length}
-use Rattle.paper.specs.Job.{dimension}
 use Rattle.paper.specs.Values.{field_of}
 use Rattle.paper.specs.Operations.{answered, step_in, on_same_facet, verdict_and_count}
-use Rattle.paper.specs.Answers.{verdict_as, traced_as}
+use Rattle.paper.specs.Answers.{verdict_as, verdict_count}
 use Rattle.paper.specs.declared.Verdict as Code
-use Rattle.paper.specs.declared.Traced as Traced
 use Rattle.places.specs.Held.{place_as}
-use Rattle.places.specs.declared.HeldPlace.{HeldPlace}
-use Rattle.job.proofs.OpenJob.{job_opens}
+use Rattle.paper.specs.declared.HeldPlace.{HeldPlace}
+use Rattle.job.proofs.Opened.{job_opens}
 use Rattle.step.specs.Held.{Held}
 use Rattle.carried.specs.declared.Entered.{Entered}
 use Rattle.ahead.specs.Visited.{GoesOn}
@@ -73,8 +71,8 @@ module _ {s : List ℕ} {n : ℕ} {start here : HeldPlace} {count : ℕ} (c : Co
   -- the walk is over, and the place that it came to is the last one
   pub counting_over : (v : Code.Verdict)
       → ((rest : Place → Trace Place Stop) → after_step on_same_facet rest first x (step_in s x) ≡ ended x (verdict_as v))
-      → traced_as (Traced.TheVariants.Listed v (count + 1)) ≡ verdict_and_count (answered (whole_trace s first))
-  unfolding traced_as verdict_and_count rest_from
+      → answered (verdict_count record { verdict = v; count = count + 1 }) ≡ verdict_and_count (answered (whole_trace s first))
+  unfolding verdict_count verdict_and_count rest_from
   counting_over v e =
       let last = ends_here (step_in s) on_same_facet first (length (job_facets s)) x c.not_full e in
       let verdict = sym (c.same_verdict ∙ ap (λ (t : Trace Place Stop). t.verdict) last) in

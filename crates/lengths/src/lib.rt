@@ -5,49 +5,40 @@
 
 ghost use Rattle.std.specs.Prelude.{◌≡◌};
 ghost use Rattle.paper.specs.Operations.{answered, verdict_and_count};
-ghost use Rattle.paper.specs.Answers.{traced_as};
+ghost use Rattle.paper.specs.Answers.{traced_as, verdict_count};
 ghost use Rattle.places.specs.Held.{place_as};
-ghost use Rattle.job.specs.OpenJob.{JobOf};
 ghost use Rattle.carried.specs.Carries.{Carries};
 ghost use Rattle.seamlist.specs.WholeTrace.{whole_trace};
 ghost use Rattle.lengths.specs.Length.{traced_from};
 
-use ahead::Visited;
 use carried::Entered;
-use paper::Traced;
+use job::OpenJob;
+use paper::{Refusal, Traced};
 
 // The walk from a place with what is carried there.
-fn walk_length(job: &[u8], n: usize, start: Entered, cells: &mut [i64; 15]) -> Traced
-    requires { Carries job.now n start cells.old }
-    ensures { traced_as result ≡ verdict_and_count (answered (whole_trace job.now (place_as n start.place))) }
+fn walk_length(job: OpenJob<'_>, start: Entered, cells: &mut [i64; 15]) -> Traced
+    requires { Carries job.bytes.now job.n start cells.old }
+    ensures { answered (verdict_count result) ≡ verdict_and_count (answered (whole_trace job.entry.bytes.now (place_as job.entry.n start.place))) }
 {
     let first = start.place;
     let mut here = start;
     let mut count: u64 = 0;
     loop {
-        let after = ahead::look_ahead(job, n, first, here, cells);
+        let after = ahead::look_ahead(job, first, here, cells);
         count += 1;
         match after {
-            Visited::Over(verdict) => {
-                return Traced::Listed(verdict, count);
-            }
-            Visited::Next(next) => {
-                here = next;
-            }
+            Ok(next) => here = next,
+            Err(verdict) => return Traced { verdict, count },
         }
     }
 }
 
-// The trace from a place handed over as bytes, in a job that has opened: what Point refuses, or the verdict and the count of places.
-pub fn trace_length(job: &[u8], n: usize, place: &[u8]) -> Traced
-    requires { JobOf n job.now }
-    ensures { traced_as result ≡ verdict_and_count (traced_from job.now place.now) }
+// The trace from a place handed over as bytes: what Point refuses, or the verdict and the count of places.
+pub fn trace_length(job: OpenJob<'_>, place: &[u8]) -> Result<Traced, Refusal>
+    ensures { traced_as result ≡ verdict_and_count (traced_from job.entry.bytes.now place.now) }
 {
     let mut cells = [0i64; 15];
-    let here = located::crossing_in(job, n, place, &mut cells);
-    if here.refusal != 0 {
-        return Traced::Refused(here.refusal);
-    }
-    let start = carried::enter(n, here.place, &mut cells);
-    walk_length(job, n, start, &mut cells)
+    let here = located::crossing_in(job, place, &mut cells)?;
+    let start = carried::enter(job.n, here, &mut cells);
+    Ok(walk_length(job, start, &mut cells))
 }

@@ -7,13 +7,11 @@ ghost use Rattle.paper.specs.Limits.{dimension_ok, term_limit};
 ghost use Rattle.bits.specs.Axes.{Axes};
 
 // The dimensions are 2, 3 and 4.
+#[tactic(auto, unfolding(paper::specs::Limits::dimension_ok))]
 pub fn dimension_ok(n: usize) -> bool
     ensures { result ≡ dimension_ok n }
 {
-    if n < 2 {
-        return false;
-    }
-    n <= 4
+    (2..=4).contains(&n)
 }
 
 // The limits of terms for the dimensions from 2 on.

@@ -12,8 +12,11 @@ use Rattle.paper.specs.Operations.{Answer, refused, answered, trace_refusal, tra
 use Rattle.paper.specs.Answers.{verdict_as}
 use Rattle.paper.specs.Listing.{refused_line, first_line, place_lines, listing_space, listing_lines, listing}
 use Rattle.paper.specs.Demand3.{read_places}
-use Rattle.paper.specs.declared.Verdict.{Verdict}
-use Rattle.paper.specs.declared.Traced as Traced
+use Rattle.paper.specs.Refusals.{refusal_number, answer_by}
+use Rattle.paper.specs.declared.Refusal.{Refusal}
+use Rattle.paper.specs.declared.Traced.{Traced}
+use Rattle.paper.proofs.Refused.{refusal_some}
+use Rattle.std.proofs.Common.{Ok, Err}
 use Rattle.paper.proofs.Refusals.{first_refuses, unless_refused}
 use Rattle.listing.specs.Listed.{listed_trace, listed_as, places_after}
 use Rattle.listing.proofs.RoomSizes.{longest_job_lem}
@@ -40,12 +43,14 @@ unfolding places_after
 places_written s b h = sym (rw (longest_job_lem, le-ltb 2048 (length s) h))
 
 -- a job that does not open
-module _ (s : List ℕ) {k : ℕ} (e : k ≡ open_refusal s) (h : k ≡ 0 → ⊥) where
-  not_traced : traced s listing_space ≡ refused k
+module _ (s : List ℕ) (e : Refusal) (is : refusal_number e ≡ open_refusal s) where
+  not_traced : traced s listing_space ≡ refused (refusal_number e)
   unfolding traced trace_refusal
-  not_traced = let r : trace_refusal s ≡ k = first_refuses (open_refusal s) _ (λ z. h (e ∙ z)) ∙ sym e in rw r (unless_refused k _ h)
+  not_traced =
+      let r : trace_refusal s ≡ refusal_number e = first_refuses (open_refusal s) _ (λ z. refusal_some e (is ∙ z)) ∙ sym is in
+      rw r (unless_refused (refusal_number e) _ (refusal_some e))
 
-  pub listing_unopened : length s ≤ 2048 → refused_line k ≡ listing s
+  pub listing_unopened : length s ≤ 2048 → refused_line (refusal_number e) ≡ listing s
   unfolding listing_lines
   listing_unopened l = sym (ap (listing_lines s) not_traced) ∙ listing_short s l
 
@@ -55,17 +60,16 @@ module _ (s : List ℕ) {k : ℕ} (e : k ≡ open_refusal s) (h : k ≡ 0 → �
 
 -- ---- opened
 
-pub lines_refused : (s b : List ℕ) {r : Traced.Traced} {k : ℕ} → r ≡ Traced.TheVariants.Refused k
-    → listed_as s b r ≡ traced s listing_space → refused_line k ≡ listing_lines s (traced s listing_space)
-unfolding listed_as listing_lines
-lines_refused s b e f = ap (listing_lines s) (sym (ap (listed_as s b) e) ∙ f)
+pub lines_refused : (s b : List ℕ) (e : Refusal) → listed_as s b (Err e) ≡ traced s listing_space
+    → refused_line (refusal_number e) ≡ listing_lines s (traced s listing_space)
+unfolding listed_as answer_by listing_lines
+lines_refused s b e f = ap (listing_lines s) f
 
-pub listed_answer : (s b : List ℕ) {r : Traced.Traced} {v : Verdict} {count : ℕ} → r ≡ Traced.TheVariants.Listed v count
-    → listed_as s b r ≡ traced s listing_space → traced s listing_space ≡ answered (listed_trace s b v count)
-unfolding listed_as
-listed_answer s b e f = sym f ∙ ap (listed_as s b) e
+pub listed_answer : (s b : List ℕ) (r : Traced) → listed_as s b (Ok r) ≡ traced s listing_space → traced s listing_space ≡ answered (listed_trace s b r)
+unfolding listed_as answer_by
+listed_answer s b r f = sym f
 
-pub trace_lines : (s b : List ℕ) (v : Verdict) (count : ℕ) {n : ℕ} → traced s listing_space ≡ answered (listed_trace s b v count) → n ≡ dimension s
-    → first_line n (verdict_as v) count ++ place_lines s (read_places n count b) ≡ listing_lines s (traced s listing_space)
+pub trace_lines : (s b : List ℕ) (r : Traced) {n : ℕ} → traced s listing_space ≡ answered (listed_trace s b r) → n ≡ dimension s
+    → first_line n (verdict_as r.verdict) r.count ++ place_lines s (read_places n r.count b) ≡ listing_lines s (traced s listing_space)
 unfolding listing_lines
-trace_lines s b v count h e = sym (rw (h, read_places_length (dimension s) count b, e))
+trace_lines s b r h e = sym (rw (h, read_places_length (dimension s) r.count b, e))

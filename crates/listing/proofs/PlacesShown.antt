@@ -1,13 +1,13 @@
 -- Places one after another as bytes: the first one's line and the lines of the rest; each place of a trace is shown.
-use Prim.Native.Nat.{ℕ, suc, zero, ◌+◌, ◌*◌, ◌-◌, ◌≤◌}
-use mathlib.Core.Path.{◌≡◌, refl, ap, ◌∙◌}
+use Prim.Native.Nat.{ℕ, suc, zero, ◌+◌, ◌*◌, ◌≤◌, ◌<◌}
+use mathlib.Core.Path.{◌≡◌, refl, ap, subst, ◌∙◌}
 use mathlib.Core.Bool.{Bool, not}
 use mathlib.Core.List.Memᴰ
-use mathlib.Core.List.{List, ◌++◌}
+use mathlib.Core.List.{List, [], ◌++◌}
 use native.Mathlib.Omega.{arith}
-use native.Mathlib.Nat.{mul-suc, le_refl}
+use native.Mathlib.Nat.{mul-suc, zero-mul}
 use lib.ListN.{length, take, drop, length-drop}
-use lib.Seq.{length-take-le, take_all}
+use lib.Seq.{length-take-le, drop-drop}
 use borrow.Author.Tests.{eq-eqb}
 use Rattle.exact.proofs.AndTests.{and_left, and_right}
 use Rattle.curves.specs.Grid.{Place, facet_vertices}
@@ -25,19 +25,9 @@ use Rattle.paper.proofs.Opens.{Opens, opens}
 use Rattle.paper.proofs.WithStart.{opens_back}
 use Rattle.bits.specs.Axes.{Axes}
 use Rattle.bits.proofs.EachDimension.{dimension_axes}
-use Rattle.decimals.specs.Written.{Writes}
-use Rattle.decimals.proofs.WrittenParts.{writes_nothing}
-use Rattle.text.specs.Lines.{line_limit}
 use Rattle.listing.specs.Shown.{line_of, HasLine, HaveLines}
 
--- ---- the first place and the rest
-
--- what stands behind w bytes, as a part lent to the end
-abbrev pub behind : ℕ → List ℕ → List ℕ
-behind w b = take (length b - w) (drop w b)
-
-behind_whole : (w : ℕ) (b : List ℕ) → behind w b ≡ drop w b
-behind_whole w b = take_all (length b - w) (drop w b) (rw length-drop (le_refl _))
+-- ---- place by place
 
 pub facet_at_lem : (s p : List ℕ) {n : ℕ} → n ≡ dimension s → (decode_place n p).facet ≡ facet_of s p
 unfolding facet_of
@@ -46,28 +36,33 @@ facet_at_lem s p e = ap (λ (m : ℕ). (decode_place m p).facet) e
 pub line_axes : {n : ℕ} {s p : List ℕ} → HasLine n s p → Axes n
 line_axes {n} {s} h = dimension_axes n (rw h.job.dimension (opens s h.job.opens).dimensions)
 
-pub record FirstShown (n : ℕ) (s : List ℕ) (count : ℕ) (b : List ℕ) : Type 0 where
-  pub room : 3 * n ≤ length b
-  pub line : HasLine n s (take (3 * n) b)
-  pub rest : HaveLines n s (count - 1) (behind (3 * n) b)
-  pub text : line_of s (take (3 * n) b) ++ place_lines s (read_places n (count - 1) (behind (3 * n) b)) ≡ place_lines s (read_places n count b)
+-- place i has a line, and it lies within the bytes
+pub record LineAt (n : ℕ) (s b : List ℕ) (i : ℕ) : Type 0 where
+  pub room : i * (3 * n) + 3 * n ≤ length b
+  pub line : HasLine n s (take (3 * n) (drop (i * (3 * n)) b))
 
-pub first_shown : {n : ℕ} {s : List ℕ} (count : ℕ) {b : List ℕ} → HaveLines n s count b → (count ≡ 0 → ⊥) → FirstShown n s count b
-unfolding HaveLines place_lines read_places
-first_shown {n} {s} zero {b} a h = absurd (h refl)
-first_shown {n} {s} (suc k) {b} a h =
-    let one : suc k - 1 ≡ k = omega arith in
+pub line_at : {n : ℕ} {s : List ℕ} (count : ℕ) {b : List ℕ} → HaveLines n s count b → (i : ℕ) → i < count → LineAt n s b i
+unfolding HaveLines
+line_at zero a i h = absurd (omega (arith, h))
+line_at {n} {s} (suc k) {b} a zero h = record { room = omega (arith, a.0); line = rw (zero-mul (3 * n)) a.1.0 }
+line_at {n} {s} (suc k) {b} a (suc i) h =
+    let next = line_at k a.1.1 i (omega (arith, h)) in
     record {
-      room = a.0;
-      line = a.1.0;
-      rest = rw (one, behind_whole (3 * n) b) a.1.1;
-      text = rw (one, behind_whole (3 * n) b, ← facet_at_lem s (take (3 * n) b) a.1.0.job.dimension);
+      room = omega (arith, next.room, length-drop (3 * n) b, a.0);
+      line =
+          subst (λ d. HasLine n s (take (3 * n) d))
+          (drop-drop (i * (3 * n)) (3 * n) b ∙ ap (λ m. drop m b) (omega arith)) next.line;
     }
 
-pub no_lines : (n : ℕ) (s b out : List ℕ) (at : ℕ) {count : ℕ} → count ≡ 0
-    → Writes (line_limit * count) (place_lines s (read_places n count b)) at out out at
+-- the lines of places in bytes, with the first one's in front
+pub place_line_by : {n : ℕ} (s : List ℕ) → n ≡ dimension s → (k : ℕ) (b : List ℕ)
+    → place_lines s (read_places n (suc k) b) ≡ line_of s (take (3 * n) b) ++ place_lines s (read_places n k (drop (3 * n) b))
 unfolding place_lines read_places
-no_lines n s b out at e = rw e (writes_nothing out at)
+place_line_by {n} s e k b = rw (facet_at_lem s (take (3 * n) b) e) refl
+
+pub no_line : (n : ℕ) (s b : List ℕ) → place_lines s (read_places n 0 b) ≡ []
+unfolding place_lines read_places
+no_line n s b = refl
 
 -- ---- the places of a trace
 

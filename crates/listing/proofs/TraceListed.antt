@@ -17,11 +17,13 @@ use Rattle.curves.proofs.WalkTrace.{trace_length}
 use Rattle.paper.specs.Job.{dimension}
 use Rattle.paper.specs.Values.{field_of}
 use Rattle.paper.specs.Operations.{Answer, refused, answered, step_in, start_of, trace_refusal, on_same_facet, traced, space_of, verdict_and_count, encode_places, places_over, buffer_after}
-use Rattle.paper.specs.Answers.{verdict_as, traced_as}
+use Rattle.paper.specs.Answers.{verdict_as, verdict_count, traced_as}
 use Rattle.paper.specs.Listing.{listing_space}
 use Rattle.paper.specs.Demand3.{read_places}
-use Rattle.paper.specs.declared.Verdict.{Verdict}
-use Rattle.paper.specs.declared.Traced as Traced
+use Rattle.paper.specs.Refusals.{refusal_number, answer_by}
+use Rattle.paper.specs.declared.Refusal.{Refusal}
+use Rattle.paper.specs.declared.Traced.{Traced}
+use Rattle.std.proofs.Common.{Result, Ok, Err}
 use Rattle.paper.proofs.Tests.{DimensionRange}
 use Rattle.paper.proofs.Refusals.{answered_inv}
 use Rattle.paper.proofs.Opens.{opens, opens_range}
@@ -46,22 +48,20 @@ answer_or d (refused k) = d
 answer_or d (answered a) = a
 
 -- Trace's answer with the places read from the buffer is the trace
-read_back : (s b rest : List ℕ) (space : ℕ) (a : Answer (Trace Place Stop)) → traced s space ≡ a → (r : Traced.Traced)
+read_back : (s b rest : List ℕ) (space : ℕ) (a : Answer (Trace Place Stop)) → traced s space ≡ a → (r : Result Traced Refusal)
     → traced_as r ≡ verdict_and_count a → listed_as s (buffer_after a b ++ rest) r ≡ a
-unfolding traced_as verdict_and_count buffer_after places_over listed_as answer_or
-read_back s b rest space (refused k) q (Traced.TheVariants.Refused l) e = e'
+unfolding traced_as verdict_count answer_by verdict_and_count buffer_after places_over listed_as answer_or
+read_back s b rest space (refused k) q (Err e) h = e'
   where
-    e' : ◌≡◌ {A = Answer (Trace Place Stop)} (refused l) (refused k)
-    e' = let f : l ≡ k = cc in ap refused f
-read_back s b rest space (refused k) q (Traced.TheVariants.Listed v c) e =
-    let z : ◌≡◌ {A = ℕ} 0 1 = cc in absurd (omega arith)
-read_back s b rest space (answered t) q (Traced.TheVariants.Refused l) e =
-    let z : ◌≡◌ {A = ℕ} 0 1 = cc in absurd (omega arith)
-read_back s b rest space (answered t) q (Traced.TheVariants.Listed v c) e =
-    let verdict : verdict_as v ≡ t.verdict = ap (λ (x : Answer (Walk.Verdict Stop × ℕ)). (answer_or (verdict_as v, c) x).0) e in
-    let count : c ≡ length t.places = ap (λ (x : Answer (Walk.Verdict Stop × ℕ)). (answer_or (verdict_as v, c) x).1) e in
+    e' : ◌≡◌ {A = Answer (Trace Place Stop)} (refused (refusal_number e)) (refused k)
+    e' = let f : refusal_number e ≡ k = cc in ap refused f
+read_back s b rest space (refused k) q (Ok t) e = cc
+read_back s b rest space (answered t) q (Err l) e = cc
+read_back s b rest space (answered t) q (Ok r) e =
+    let verdict : verdict_as r.verdict ≡ t.verdict = ap (λ (x : Answer (Walk.Verdict Stop × ℕ)). (answer_or (verdict_as r.verdict, r.count) x).0) e in
+    let count : r.count ≡ length t.places = ap (λ (x : Answer (Walk.Verdict Stop × ℕ)). (answer_or (verdict_as r.verdict, r.count) x).1) e in
     let bytes = encode_places t.places in
-    let back : read_places (dimension s) c ((bytes ++ drop (length bytes) b) ++ rest) ≡ t.places =
+    let back : read_places (dimension s) r.count ((bytes ++ drop (length bytes) b) ++ rest) ≡ t.places =
     rw (count, append_assoc bytes (drop (length bytes) b) rest)
     (places_read (dimension s) t.places (drop (length bytes) b ++ rest) (traced_writable s space t q)) in
     λ i. answered (record { verdict = verdict i; places = back i })
@@ -95,7 +95,7 @@ module _ {n room : ℕ} {s : List ℕ} (j : JobOf n s) (b : List ℕ) (long : le
   part_space part =
       space_is s b room listing_space (part ∙ ap (λ (m : ℕ). listing_space * (3 * m)) j.dimension) (omega (arith, job_range j, j.dimension)) (part_inside part)
 
-  pub part_traced : (r : Traced.Traced) {front : List ℕ}
+  pub part_traced : (r : Result Traced Refusal) {front : List ℕ}
       → traced_as r ≡ verdict_and_count (traced s (space_of s (take room b)))
       → front ≡ buffer_after (traced s (space_of s (take room b))) (take room b)
       → room ≡ listing_space * (3 * n)
@@ -109,25 +109,25 @@ module _ {n room : ℕ} {s : List ℕ} (j : JobOf n s) (b : List ℕ) (long : le
 
 -- ---- what the lines ask
 
-module _ {n : ℕ} {s : List ℕ} (j : JobOf n s) (b : List ℕ) (v : Verdict) (count : ℕ) (h : traced s listing_space ≡ answered (listed_trace s b v count)) where
-  pub count_within : count ≤ listing_space
+module _ {n : ℕ} {s : List ℕ} (j : JobOf n s) (b : List ℕ) (r : Traced) (h : traced s listing_space ≡ answered (listed_trace s b r)) where
+  pub count_within : r.count ≤ listing_space
   unfolding traced
   count_within =
       let is = (answered_inv (trace_refusal s) _ _ h).is in
       let most = trace_length (step_in s) on_same_facet (start_of s) listing_space in
       let few = subst (λ (t : Trace Place Stop). length t.places ≤ listing_space) is most in
-      omega (arith, few, read_places_length (dimension s) count b)
+      omega (arith, few, read_places_length (dimension s) r.count b)
 
-  each_traceable : (p : Place) → p ∈ read_places (dimension s) count b → Traceable (dimension s) (field_of s) p
+  each_traceable : (p : Place) → p ∈ read_places (dimension s) r.count b → Traceable (dimension s) (field_of s) p
   unfolding traced
   each_traceable p i =
-      let u = answered_inv (trace_refusal s) (trace (step_in s) on_same_facet (start_of s) listing_space) (listed_trace s b v count) h in
+      let u = answered_inv (trace_refusal s) (trace (step_in s) on_same_facet (start_of s) listing_space) (listed_trace s b r) h in
       listed_traceable (opens s j.opens) (start_of s) (start_traceable s u.none) listing_space p
       (subst (λ (t : Trace Place Stop). p ∈ t.places) (sym u.is) i)
 
-  pub listed_lines : length b ≡ places_room → HaveLines n s count b
+  pub listed_lines : length b ≡ places_room → HaveLines n s r.count b
   listed_lines long =
       let o = opens s j.opens in
-      let most : 3 * dimension s * count ≤ 3 * dimension s * listing_space = mul-le-mul_left (3 * dimension s) count_within in
+      let most : 3 * dimension s * r.count ≤ 3 * dimension s * listing_space = mul-le-mul_left (3 * dimension s) count_within in
       let whole : 3 * dimension s * listing_space ≤ places_room = mul-le-mul_right listing_space (omega (arith, opens_range o)) in
-      rw j.dimension (have_lines o count b (omega (arith, most, whole)) each_traceable)
+      rw j.dimension (have_lines o r.count b (omega (arith, most, whole)) each_traceable)

@@ -1,23 +1,23 @@
 -- The answer of Trace with the places that it wrote read back from the buffer, and what the listing leaves in that buffer.
-use Rattle.std.specs.Prelude.{ℕ, cond, List, ltb, length}
+use Rattle.std.specs.Prelude.{ℕ, cond, List, ltb, length, Result}
 use Rattle.curves.specs.Grid.{Place}
 use Rattle.curves.specs.Walk.{Trace}
 use Rattle.curves.specs.Step.{Stop}
 use Rattle.paper.specs.Job.{dimension}
-use Rattle.paper.specs.Operations.{Answer, refused, answered, traced, buffer_after}
+use Rattle.paper.specs.Operations.{Answer, traced, buffer_after}
+use Rattle.paper.specs.Refusals.{answer_by}
 use Rattle.paper.specs.Answers.{verdict_as}
 use Rattle.paper.specs.Listing.{longest_job, listing_space}
 use Rattle.paper.specs.Demand3.{read_places}
-use Rattle.paper.specs.declared.Verdict.{Verdict}
-use Rattle.paper.specs.declared.Traced as Traced
+use Rattle.paper.specs.declared.Refusal.{Refusal}
+use Rattle.paper.specs.declared.Traced.{Traced}
 
 -- a verdict, and so many places at the front of the bytes b
-abbrev pub listed_trace : List ℕ → List ℕ → Verdict → ℕ → Trace Place Stop
-listed_trace s b v count = record { verdict = verdict_as v; places = read_places (dimension s) count b }
+abbrev pub listed_trace : List ℕ → List ℕ → Traced → Trace Place Stop
+listed_trace s b t = record { verdict = verdict_as t.verdict; places = read_places (dimension s) t.count b }
 
-unfoldable pub listed_as : List ℕ → List ℕ → Traced.Traced → Answer (Trace Place Stop)
-listed_as s b (Traced.TheVariants.Refused k) = refused k
-listed_as s b (Traced.TheVariants.Listed v count) = answered (listed_trace s b v count)
+unfoldable pub listed_as : List ℕ → List ℕ → Result Traced Refusal → Answer (Trace Place Stop)
+listed_as s b r = answer_by (listed_trace s b) r
 
 -- the buffer of the places at exit: what Trace leaves there; as found if the job is too long
 unfoldable pub places_after : List ℕ → List ℕ → List ℕ

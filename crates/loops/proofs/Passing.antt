@@ -3,22 +3,22 @@
 use Prim.Native.Nat.{ℕ, ◌<◌}
 use native.Mathlib.Omega.{arith}
 use mathlib.Core.Path.{◌≡◌, refl, sym, ap, subst, ◌∙◌}
-use mathlib.Core.Bool.{Bool, true, false, not, cond}
+use mathlib.Core.Bool.{Bool, true, false, not, cond, beq}
 use mathlib.Core.List.{List, [], ◌∷◌, map}
 use lib.IntN.{ℤ}
-use lib.ListN.{length}
+use lib.ListN.{length, get_or}
+use Rattle.exact.specs.Int.{0ℤ}
 use Rattle.curves.specs.Grid.{Place}
 use Rattle.curves.specs.Walk.{Verdict, Trace, ended, written, full, after_step}
 use Rattle.curves.specs.Step.{Stop}
 use Rattle.curves.specs.Box.{keep}
 use Rattle.curves.specs.Joined.{Traceable}
-use Rattle.paper.specs.Job.{dimension}
 use Rattle.paper.specs.Values.{field_of}
 use Rattle.paper.specs.Operations.{step_in, on_same_facet}
 use Rattle.paper.specs.Demand3.{facets_of}
-use Rattle.places.specs.Held.{vertex_as, facet_as, place_as}
-use Rattle.places.specs.declared.HeldPlace.{HeldPlace}
-use Rattle.job.proofs.OpenJob.{job_opens}
+use Rattle.places.specs.Held.{facet_as, place_as}
+use Rattle.paper.specs.declared.HeldPlace.{HeldPlace}
+use Rattle.job.proofs.Opened.{job_opens}
 use Rattle.step.specs.Held.{Held}
 use Rattle.carried.specs.declared.Entered.{Entered}
 use Rattle.ahead.specs.Visited.{GoesOn}
@@ -31,6 +31,7 @@ use Rattle.nesting.specs.CutOrder.{loop_of, same_loop, row_end}
 use Rattle.loops.specs.declared.Past as Code
 use Rattle.loops.specs.Past.{edge_ahead, flips, beside, told, told_of}
 use Rattle.loops.proofs.AheadCount.{inside_by_walk}
+use Rattle.loops.proofs.EdgesAhead.{plane_vertex}
 use Rattle.loops.proofs.LoopFacets.{loop_differ, loop_within}
 
 -- whether an odd number of the facets of a trace are edges ahead of p's lowest vertex
@@ -64,6 +65,14 @@ unfolding flips
 flips_false true = refl
 flips_false false = refl
 
+-- the code's test
+pub flips_is : (a b : Bool) → not (beq b a) ≡ flips a b
+unfolding flips
+flips_is true true = refl
+flips_is true false = refl
+flips_is false true = refl
+flips_is false false = refl
+
 -- a place in front of a trace
 odd_first : (p x : Place) (t : Trace Place Stop) → odd_ahead p (written x t) ≡ flips (edge_ahead p.facet.low x.facet) (odd_ahead p t)
 unfolding odd_ahead keep odd flips
@@ -92,19 +101,21 @@ module _ {s : List ℕ} {start : HeldPlace} (h : Held s 2 start) where
       let takes = subst (λ m. Traceable m (field_of s) (place_as 2 start)) h.job.dimension h.traceable in
       job_room_lem (job_opens h.job) (place_as 2 start) takes (length (job_facets s)) (omega arith)
 
-  pub passing_begins : (past : HeldPlace) → Passing s start start past false
-  unfolding same_loop loop_of odd_ahead flips place_as facet_as vertex_as
-  passing_begins past =
+  pub passing_begins : (past : HeldPlace) → length past.low.coordinates ≡ 4 → Passing s start start past false
+  unfolding same_loop loop_of odd_ahead flips place_as facet_as
+  passing_begins past four =
       let q = place_as 2 start in
       let is = whole_rest s q in
       let e = sym h.job.dimension in
-      let low = past.low in
+      let low = past.low.coordinates in
       record {
         held = h;
         not_full = λ f. whole_not_full (ap (λ (t : Trace Place Stop). t.verdict) is ∙ f);
         same_loop_lem = ap (λ t. among (facets_of t) (place_as 2 past).facet) is;
         is_inside_lem =
-            inside_by_walk (row_end s) low.x low.y (loop_of s q) (loop_differ (job_opens h.job) e q h.traceable) (loop_within (job_opens h.job) e q h.traceable)
+            subst (λ v. inside (row_end s) (loop_of s q) v ≡ odd (length (keep (edge_ahead v) (loop_of s q)))) (sym (plane_vertex past.low four))
+            (inside_by_walk (row_end s) (get_or low 0 0ℤ) (get_or low 1 0ℤ) (loop_of s q) (loop_differ (job_opens h.job) e q h.traceable)
+            (loop_within (job_opens h.job) e q h.traceable))
             ∙ ap (odd_ahead (place_as 2 past)) is;
       }
 

@@ -1,5 +1,5 @@
 -- The constant array of the code has the exponents of each monomial.
-use Prim.Native.Nat.{ℕ, suc, zero, ◌+◌, ◌/◌, ◌%◌, ◌<◌}
+use Prim.Native.Nat.{ℕ, suc, zero, ◌+◌, ◌*◌, ◌/◌, ◌%◌, ◌<◌}
 use mathlib.Core.Path.{◌≡◌, refl, sym, subst}
 use mathlib.Core.Bool.{Bool, true, false}
 use mathlib.Core.List.{List, [], ◌∷◌, flat_map}
@@ -15,7 +15,7 @@ use Rattle.paper.specs.RunningSum.{exponent_sum}
 use Rattle.paper.proofs.Tests.{all_at}
 use Rattle.formula.specs.Polynomial.{monomial_count, monomials, exponents_up_to, exponents_at, degree_at}
 use Rattle.monomials.specs.Weight.{weight}
-use Rattle.monomials.proofs.Exponents.{Four, four_within, within_four, four_more, weight_small}
+use Rattle.monomials.proofs.FourDigits.{Four, four, four_within, within_four, four_more, weight_small}
 
 -- the array of the code
 abbrev pub codes_array : List ℕ
@@ -52,16 +52,31 @@ pub exponents_four : (k : ℕ) → k < monomial_count → Four 4 (exponents_at k
 unfolding few_digits four_within exponents_at monomials exponents_up_to degree_limit count_from flat_map all_from
 exponents_four k l = within_four 4 (exponents_at k) (passes few_digits refl k l)
 
-pub code_small : (k : ℕ) → k < monomial_count → get_or codes_array k 0 < 65536
-code_small k l = rw (code_is k l) (weight_small (four_more (lit≤ tt) (exponents_four k l)))
+-- the digits of the weight of four exponents are the exponents
+weight_digits : {es : List ℕ} → Four 4 es → weight es / 4096 ∷ weight es / 256 % 16 ∷ weight es / 16 % 16 ∷ weight es % 16 ∷ [] ≡ es
+unfolding weight
+weight_digits (four {a} {b} {c} {d} h i j k) =
+    let first : (a * 4096 + b * 256 + c * 16 + d) / 4096 ≡ a = omega arith in
+    let second : (a * 4096 + b * 256 + c * 16 + d) / 256 % 16 ≡ b = omega arith in
+    let third : (a * 4096 + b * 256 + c * 16 + d) / 16 % 16 ≡ c = omega arith in
+    let fourth : (a * 4096 + b * 256 + c * 16 + d) % 16 ≡ d = omega arith in
+    rw (first, second, third, fourth) refl
 
-same_degree : List ℕ → ℕ → Bool
-same_degree e k = let w : ℕ = weight e in eqb (w / 4096 + w / 256 % 16 + w / 16 % 16 + w % 16) (exponent_sum e)
+pub code_digits : {w : ℕ} (k : ℕ) → k < monomial_count → w ≡ weight (exponents_at k) → w / 4096 ∷ w / 256 % 16 ∷ w / 16 % 16 ∷ w % 16 ∷ [] ≡ exponents_at k
+code_digits k l e = rw e (weight_digits (exponents_four k l))
 
--- the degree is the sum of the digits
-pub digits_degree : {w : ℕ} (k : ℕ) → k < monomial_count → w ≡ weight (exponents_at k) → w / 4096 + w / 256 % 16 + w / 16 % 16 + w % 16 ≡ degree_at k
-unfolding same_degree weight exponent_sum degree_at exponents_at monomials exponents_up_to degree_limit count_from flat_map all_from
-digits_degree k l e = rw e (eqb-true _ _ (passes same_degree refl k l))
+pub weight_below : (k : ℕ) → k < monomial_count → weight (exponents_at k) < 65536
+weight_below k l = weight_small (four_more (lit≤ tt) (exponents_four k l))
+
+-- the sum of four exponents is the degree
+sum_degree : {m : ℕ} {es : List ℕ} → Four m es → get_or es 0 0 + get_or es 1 0 + get_or es 2 0 + get_or es 3 0 ≡ exponent_sum es
+unfolding exponent_sum
+sum_degree (four h i j k) = omega arith
+
+pub exponents_degree : {es : List ℕ} (k : ℕ) → k < monomial_count → es ≡ exponents_at k
+    → get_or es 0 0 + get_or es 1 0 + get_or es 2 0 + get_or es 3 0 ≡ degree_at k
+unfolding degree_at
+exponents_degree k l e = rw e (sum_degree (exponents_four k l))
 
 rises : ℕ → Bool
 rises k = ltb (get_or codes_array k 0) (get_or codes_array (k + 1) 0)

@@ -1,9 +1,8 @@
 -- The search for the product of two monomials by its code.
-use Prim.Native.Nat.{ℕ, suc, zero, ◌+◌, ◌≤◌, ◌<◌}
+use Prim.Native.Nat.{ℕ, suc, zero, ◌+◌, ◌≤◌, ◌<◌, max}
 use mathlib.Core.Path.{◌≡◌, refl, sym, subst, ◌∙◌}
 use mathlib.Core.Bool.{Bool, true, false}
 use mathlib.Core.List.{List, []}
-use mathlib.Core.Logic.{◌⊎◌, inl, inr}
 use native.Mathlib.Nat.{zero-add}
 use native.Mathlib.Numerals.{add-one}
 use native.Mathlib.Omega.{arith}
@@ -11,10 +10,11 @@ use lib.Dec.{ltb, lit≤}
 use borrow.Author.Tests.{ltb-true, ltb-false}
 use lib.ListN.{get_or, drop, drop_of_length-le}
 use lib.Seq.{drop-cons}
+use Rattle.std.specs.Prelude.{Option, Some, None, MatchOption}
 use Rattle.formula.specs.Polynomial.{monomial_count, monomials, exponents_at, sum_exponents, same_exponents, position_in, slot, product_slot}
 use Rattle.formula.proofs.Slots.{monomials_counted}
 use Rattle.monomials.specs.Weight.{weight}
-use Rattle.monomials.proofs.Exponents.{Four, sum_four, sum_weight, weight_small, weight_same, weight_other, four_more}
+use Rattle.monomials.proofs.FourDigits.{Four, sum_four, sum_weight, weight_small, weight_same, weight_other, four_more}
 use Rattle.monomials.proofs.Codes.{codes_array, code_is, codes_rise, exponents_four}
 
 -- ---- exponents e sought from monomial s on
@@ -45,8 +45,11 @@ skipped e (suc s) l h =
 
 -- ---- the product of two monomials
 
-abbrev pub Sought : ℕ → ℕ → ℕ → Type 0
-Sought i k s = (s ≤ 70) × (from (sum_exponents (exponents_at i) (exponents_at k)) s ≡ product_slot i k)
+-- of the codes from monomial m on the first that is w; none of them is
+abbrev pub FirstCode : ℕ → ℕ → Option ℕ → Type 0
+FirstCode m w r =
+    MatchOption r ((j : ℕ) → m ≤ j → j < 70 → get_or codes_array j 0 ≡ w → ⊥)
+    (λ s. (m ≤ s) × (s < 70) × (get_or codes_array s 0 ≡ w) × ((j : ℕ) → m ≤ j → j < s → get_or codes_array j 0 ≡ w → ⊥))
 
 module _ (i k : ℕ) (h : (i < monomial_count) × (k < monomial_count)) where
   abbrev product : List ℕ
@@ -61,40 +64,32 @@ module _ (i k : ℕ) (h : (i < monomial_count) × (k < monomial_count)) where
   pub product_small : weight (exponents_at i) + weight (exponents_at k) < 65536
   product_small = subst (λ (w : ℕ). w < 65536) product_weight (weight_small product_four)
 
-  -- monomials before one of the two weigh less than the product
-  lighter : (j : ℕ) → (j < i) ⊎ (j < k) → same_exponents (exponents_at j) product ≡ false
+  -- a monomial before another weighs less
+  other : (j m : ℕ) → j < m → m < monomial_count → weight (exponents_at m) ≤ weight product → same_exponents (exponents_at j) product ≡ false
   unfolding monomial_count
-  lighter j (inl l) =
-      weight_other (exponents_at j) product
-      (λ w. omega (arith, codes_rise j i l h.0, code_is i h.0, code_is j (omega (arith, h.0)), product_weight, w))
-  lighter j (inr l) =
-      weight_other (exponents_at j) product
-      (λ w. omega (arith, codes_rise j k l h.1, code_is k h.1, code_is j (omega (arith, h.1)), product_weight, w))
+  other j m l n e =
+      weight_other (exponents_at j) product (λ w. omega (arith, codes_rise j m l n, code_is m n, code_is j (omega (arith, n)), e, w))
 
-  pub product_starts : (r : ℕ) → (i < k → r ≡ k) × (k ≤ i → r ≡ i) → Sought i k r
-  unfolding product_slot monomial_count
-  product_starts r is-larger = go (ltb i k) refl
-    where
-      go : (b : Bool) → ltb i k ≡ b → Sought i k r
-      go true t =
-          let e = is-larger.0 (ltb-true i k t) in
-          (omega (arith, e, h.1), skipped product r (omega (arith, e, h.1)) (λ j l. lighter j (inr (omega (arith, e)))))
-      go false t =
-          let e = is-larger.1 (ltb-false i k t) in
-          (omega (arith, e, h.0), skipped product r (omega (arith, e, h.0)) (λ j l. lighter j (inl (omega (arith, e)))))
-
-  module _ {a b : ℕ} (is-a : a ≡ weight (exponents_at i)) (is_b : b ≡ weight (exponents_at k)) (s : ℕ) (so_far : Sought i k s) where
-    pub product_found : s < 70 → get_or codes_array s 0 ≡ a + b → s ≡ product_slot i k
+  module _ {m w : ℕ} (is-m : m ≡ max i k) (is-w : w ≡ weight (exponents_at i) + weight (exponents_at k)) where
+    -- no monomial before s is the product: those before i or k weigh less, the others have been tried
+    skip : (s : ℕ) → s ≤ 70 → ((j : ℕ) → m ≤ j → j < s → get_or codes_array j 0 ≡ w → ⊥) → from product s ≡ slot product
     unfolding monomial_count
-    product_found l w =
-        found product s l
-        (weight_same (four_more (lit≤ tt) (exponents_four s l)) (four_more (lit≤ tt) product_four) (omega (arith, code_is s l, product_weight)))
-        ∙ so_far.1
+    skip s l tried = skipped product s l (λ j b. go j b (ltb j i) refl (ltb j k) refl)
+      where
+        go : (j : ℕ) → j < s → (a : Bool) → ltb j i ≡ a → (b : Bool) → ltb j k ≡ b → same_exponents (exponents_at j) product ≡ false
+        go j u true e b f = other j i (ltb-true j i e) h.0 (omega (arith, product_weight))
+        go j u false e true f = other j k (ltb-true j k f) h.1 (omega (arith, product_weight))
+        go j u false e false f =
+            weight_other (exponents_at j) product
+            (λ q. tried j (omega (arith, is-m, ltb-false j i e, ltb-false j k f)) u (omega (arith, code_is j (omega arith), q, product_weight, is-w)))
 
-    pub product_next : s < 70 → (get_or codes_array s 0 ≡ a + b → ⊥) → Sought i k (s + 1)
-    unfolding monomial_count
-    product_next l w =
-        (omega arith, sym (next product s l (weight_other (exponents_at s) product (λ e. w (omega (arith, code_is s l, product_weight))))) ∙ so_far.1)
-
-    pub product_left : 70 ≤ s → 70 ≡ product_slot i k
-    product_left l = omega (arith, left product s l)
+    pub product_first : (r : Option ℕ) → FirstCode m w r
+        → MatchOption r (product_slot i k ≡ monomial_count) (λ s. (s ≡ product_slot i k) × (s < monomial_count))
+    unfolding product_slot monomial_count
+    product_first None f = sym (skip 70 (omega arith) f) ∙ left product 70 (omega arith)
+    product_first (Some s) f = (
+      found product s f.1
+          (weight_same (four_more (lit≤ tt) (exponents_four s f.1)) (four_more (lit≤ tt) product_four) (omega (arith, code_is s f.1, f.2, product_weight, is-w)))
+          ∙ skip s (omega (arith, f.1)) f.3,
+      f.1,
+    )

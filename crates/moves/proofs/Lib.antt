@@ -1,3 +1,2 @@
--- Laws of moved cells and columns, for the proofs of the functions.
-pub mod MovedCells
+-- Laws that the functions' proofs cite, a file for each idea.
 pub mod MovedColumns

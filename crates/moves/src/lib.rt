@@ -11,13 +11,7 @@ pub fn make_room(n: usize, cells: &mut [i64; 15], i: usize)
     requires { (Cells n cells.old) × (i ≤ n) }
     ensures { ColumnsMoved n n i cells.old cells.new }
 {
-    let first = 3 * i + 3;
-    let mut k: usize = 15;
-    while first < k {
-        k -= 1;
-        let x = cells[k - 3];
-        cells[k] = x;
-    }
+    cells.copy_within(3 * i..12, 3 * i + 3);
 }
 
 // All columns move down by one vertex; that of vertex 0 goes, and that of the last stays behind as it was.
@@ -25,12 +19,7 @@ fn drop_first(n: usize, cells: &mut [i64; 15])
     requires { Cells n cells.old }
     ensures { ColumnsMoved n 0 n cells.old cells.new }
 {
-    let mut k: usize = 0;
-    while k < 12 {
-        let x = cells[k + 3];
-        cells[k] = x;
-        k += 1;
-    }
+    cells.copy_within(3..15, 0);
 }
 
 // The vertex that is new beyond the facet without vertex e.
@@ -38,12 +27,12 @@ pub fn new_index(n: usize, e: usize) -> usize
     ensures { result ≡ new_index n e }
 {
     if e == 0 {
-        return n;
+        n
+    } else if e == n {
+        0
+    } else {
+        e
     }
-    if e == n {
-        return 0;
-    }
-    e
 }
 
 // The columns go where the simplex beyond the facet without vertex e has its vertices.

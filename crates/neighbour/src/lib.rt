@@ -13,17 +13,17 @@ fn order_beyond(n: usize, order: u64, e: usize) -> u64
     ensures { result ≡ order_beyond n order e }
 {
     if e == 0 {
-        return (order % 4096) * 16 + ((order / 4096) << (16 - 4 * n));
-    }
-    if e == n {
+        (order % 4096) * 16 + ((order / 4096) << (16 - 4 * n))
+    } else if e == n {
         let s = 16 - 4 * n;
         let a = (order >> s) % 16;
-        return (order - (a << s)) / 16 + a * 4096;
+        (order - (a << s)) / 16 + a * 4096
+    } else {
+        let s = 12 - 4 * e;
+        let a = (order >> (s + 4)) % 16;
+        let b = (order >> s) % 16;
+        order + ((b * 15) << s) - ((a * 15) << s)
     }
-    let s = 12 - 4 * e;
-    let a = (order >> (s + 4)) % 16;
-    let b = (order >> s) % 16;
-    order + ((b * 15) << s) - ((a * 15) << s)
 }
 
 // The row of the simplex on the other side of the facet without vertex e.

@@ -6,6 +6,7 @@ pub mod CasesShort
 pub mod Tests
 pub mod RangeSteps
 pub mod Refusals
+pub mod Refused
 pub mod Opens
 pub mod TermLimit
 pub mod Bodies

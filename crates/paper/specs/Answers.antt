@@ -1,34 +1,33 @@
--- Each answer of the code that is an enum or a struct, as the paper's numbers and values. The structs have room for four
+-- Each answer of the code, a `Result` of a struct, an enum or a number, as the paper's numbers and values. The arrays have room for four
 -- axes: the coordinates, masks and counts that a lower dimension does not have are 0.
-use Rattle.std.specs.Prelude.{ℕ, zero, suc, Bool, true, false, List, [], ◌∷◌, ℤ}
+use Rattle.std.specs.Prelude.{ℕ, zero, suc, Bool, List, [], ◌∷◌, ℤ, Result, Ok, Err}
 use Rattle.exact.specs.Int.{0ℤ}
 use Rattle.curves.specs.Grid.{Place}
 use Rattle.curves.specs.Walk.{Next, stop, go, loop, stopped, full}
 use Rattle.curves.specs.Walk as Walk
 use Rattle.curves.specs.Step.{Stop, edge, limit}
+use Rattle.paper.specs.declared.Refusal as Refusal
 use Rattle.paper.specs.declared.Opened as Opened
-use Rattle.paper.specs.declared.Judged as Judged
 use Rattle.paper.specs.declared.StepPoint as StepPoint
-use Rattle.paper.specs.declared.Pointed as Pointed
-use Rattle.paper.specs.declared.Placed as Placed
-use Rattle.paper.specs.declared.Stepped as Stepped
+use Rattle.paper.specs.declared.HeldPlace as HeldPlace
+use Rattle.paper.specs.declared.Stop as Code
 use Rattle.paper.specs.declared.Verdict as Verdict
 use Rattle.paper.specs.declared.Traced as Traced
-use Rattle.paper.specs.declared.Summed as Summed
 use Rattle.paper.specs.Operations.{Answer, refused, answered}
+use Rattle.paper.specs.Refusals.{answer_by}
 
 -- ---- Open
 
-unfoldable pub opened_as : Opened.Opened → Answer (List ℕ)
-opened_as (Opened.TheVariants.Refused k) = refused k
-opened_as (Opened.TheVariants.Job n a b c) = answered (n ∷ a ∷ b ∷ c ∷ [])
+unfoldable pub opened_list : Opened.Opened → List ℕ
+opened_list o = o.n ∷ o.terms
+
+unfoldable pub opened_as : Result Opened.Opened Refusal.Refusal → Answer (List ℕ)
+opened_as r = answer_by opened_list r
 
 -- ---- Judge
 
-unfoldable pub judged_as : Judged.Judged → Answer Bool
-judged_as (Judged.TheVariants.Refused k) = refused k
-judged_as Judged.TheVariants.Crossed = answered true
-judged_as Judged.TheVariants.NotCrossed = answered false
+unfoldable pub judged_as : Result Bool Refusal.Refusal → Answer Bool
+judged_as r = answer_by (λ b. b) r
 
 -- ---- Point
 
@@ -42,15 +41,14 @@ unfoldable pub padded_point : Answer (List ℤ) → Answer (List ℤ)
 padded_point (refused k) = refused k
 padded_point (answered v) = answered (padded 0ℤ 4 v)
 
-unfoldable pub pointed_as : Pointed.Pointed → Answer (List ℤ)
-pointed_as (Pointed.TheVariants.Refused k) = refused k
-pointed_as (Pointed.TheVariants.At p) = answered (p.x ∷ p.y ∷ p.z ∷ p.w ∷ [])
+unfoldable pub pointed_as : Result StepPoint.StepPoint Refusal.Refusal → Answer (List ℤ)
+pointed_as r = answer_by (λ (p : StepPoint.StepPoint). p.steps) r
 
 -- ---- Step
 
-unfoldable pub placed_as : Placed.Placed → Place
+unfoldable pub placed_as : HeldPlace.HeldPlace → Place
 placed_as p = record {
-  facet = record { low = p.x ∷ p.y ∷ p.z ∷ p.w ∷ []; masks = p.mask1 ∷ p.mask2 ∷ p.mask3 ∷ [] };
+  facet = record { low = p.low.coordinates; masks = p.masks };
   side = p.side;
 }
 
@@ -68,11 +66,16 @@ unfoldable pub padded_step : Answer (Next Place Stop) → Answer (Next Place Sto
 padded_step (refused k) = refused k
 padded_step (answered r) = answered (padded_next r)
 
-unfoldable pub stepped_as : Stepped.Stepped → Answer (Next Place Stop)
-stepped_as (Stepped.TheVariants.Refused k) = refused k
-stepped_as Stepped.TheVariants.Edge = answered (stop edge)
-stepped_as Stepped.TheVariants.Limit = answered (stop limit)
-stepped_as (Stepped.TheVariants.Next p) = answered (go (placed_as p))
+unfoldable pub stop_as : Code.Stop → Stop
+stop_as Code.TheVariants.Edge = edge
+stop_as Code.TheVariants.Limit = limit
+
+unfoldable pub next_as : Result HeldPlace.HeldPlace Code.Stop → Next Place Stop
+next_as (Ok p) = go (placed_as p)
+next_as (Err w) = stop (stop_as w)
+
+unfoldable pub stepped_as : Result (Result HeldPlace.HeldPlace Code.Stop) Refusal.Refusal → Answer (Next Place Stop)
+stepped_as r = answer_by next_as r
 
 -- ---- Trace
 
@@ -83,12 +86,13 @@ verdict_as Verdict.TheVariants.Limit = stopped limit
 verdict_as Verdict.TheVariants.Full = full
 
 -- the verdict and the count of places written
-unfoldable pub traced_as : Traced.Traced → Answer (Walk.Verdict Stop × ℕ)
-traced_as (Traced.TheVariants.Refused k) = refused k
-traced_as (Traced.TheVariants.Listed v k) = answered (verdict_as v, k)
+unfoldable pub verdict_count : Traced.Traced → Walk.Verdict Stop × ℕ
+verdict_count t = (verdict_as t.verdict, t.count)
+
+unfoldable pub traced_as : Result Traced.Traced Refusal.Refusal → Answer (Walk.Verdict Stop × ℕ)
+traced_as r = answer_by verdict_count r
 
 -- ---- the running sum
 
-unfoldable pub summed_as : Summed.Summed → Answer ℤ
-summed_as (Summed.TheVariants.Refused k) = refused k
-summed_as (Summed.TheVariants.Sum z) = answered z
+unfoldable pub summed_as : Result ℤ Refusal.Refusal → Answer ℤ
+summed_as r = answer_by (λ z. z) r

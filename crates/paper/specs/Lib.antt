@@ -5,6 +5,8 @@ pub mod Limits
 pub mod Job
 pub mod Values
 pub mod Operations
+pub mod Refusals
+pub mod Stops
 pub mod Answers
 pub mod Pen
 pub mod Listing

@@ -1,14 +1,15 @@
 -- Pen: document 01, the last of the operations. A move carries a point in millimetres as three 64-bit floats.
-use Rattle.std.specs.Prelude.{ℕ, suc, ◌*◌, ◌-◌, ◌/◌, ◌%◌, Bool, true, false, not, cond, ◌&&◌, List, [], ◌∷◌, map, ℤ, pos, negsuc, length, take, drop, ltb, eqb, Float}
+use Rattle.std.specs.Prelude.{ℕ, suc, ◌*◌, ◌-◌, ◌/◌, ◌%◌, Bool, true, false, not, cond, ◌&&◌, List, [], ◌∷◌, map, ℤ, pos, negsuc, length, take, drop, ltb, eqb, Float, Result}
 use Rattle.std.specs.Float.Ieee.{odd}
 use Rattle.exact.specs.Int.{0ℤ}
 use Rattle.paper.specs.declared.Millimetres as Millimetres
 use Rattle.paper.specs.declared.PenMove as PenMove
-use Rattle.paper.specs.declared.Penned as Penned
+use Rattle.paper.specs.declared.Refusal as Refusal
 use Rattle.paper.specs.Job.{dimension, refuse_if, open_refusal}
-use Rattle.paper.specs.Operations.{Answer, refused, answered, unless, first_refusal, point_refusal, facet_of}
+use Rattle.paper.specs.Operations.{Answer, unless, first_refusal, point_refusal, facet_of}
 use Rattle.paper.specs.Values.{field_of, point_of}
 use Rattle.paper.specs.Answers.{padded}
+use Rattle.paper.specs.Refusals.{answer_by}
 
 -- a number of steps divided by 1024, exactly: the float of that number, its sign and its size over 2 ^ 10. 0 is + 0
 unfoldable pub millimetre : ℤ → Float
@@ -62,6 +63,5 @@ move_as (PenMove.TheVariants.Lift p) = lift (millimetres_as p)
 move_as (PenMove.TheVariants.Draw p) = draw (millimetres_as p)
 move_as PenMove.TheVariants.Close = close
 
-unfoldable pub penned_as : Penned.Penned → Answer Move
-penned_as (Penned.TheVariants.Refused k) = refused k
-penned_as (Penned.TheVariants.Move m) = answered (move_as m)
+unfoldable pub penned_as : Result PenMove.PenMove Refusal.Refusal → Answer Move
+penned_as r = answer_by move_as r

@@ -9,10 +9,17 @@ use lib.Dec.{ltb}
 use borrow.Author.Tests.{eq-eqb, ne_eqb, lt-ltb, le-ltb}
 use Rattle.paper.specs.Job.{dimension, refuse_if, open_refusal}
 use Rattle.paper.specs.Operations.{refused, answered, unless, point_refusal}
-use Rattle.paper.specs.Pen.{close, place_bytes, place_count, point_millimetres, closes, pen_refusal, pen_move, penned}
-use Rattle.paper.proofs.Refusals.{first_refuses, first_passes, refuse_here, refuse_later, unless_refused, unless_answered}
+use Rattle.paper.specs.Pen.{close, place_bytes, place_count, point_millimetres, closes, pen_refusal, pen_move, move_as, penned}
+use Rattle.paper.proofs.Refusals.{first_passes, refuse_here, refuse_later, unless_refused, unless_answered}
 use Rattle.paper.proofs.PlaceLists.{count_is, part_is}
+use Rattle.std.proofs.Common.{Result}
+use Rattle.std.specs.Result.{IsErrAnd}
+use Rattle.paper.specs.declared.PenMove.{PenMove}
+use Rattle.paper.specs.declared.Refusal.{Refusal}
+use Rattle.paper.specs.Refusals.{refusal_number, answer_by}
+use Rattle.paper.proofs.Refused.{refused_first, answered_by}
 use Rattle.job.specs.OpenJob.{JobOf}
+use Rattle.located.proofs.Passed.{passed_on}
 use Rattle.pen.specs.Moves.{closes_at, move_to, moved_to}
 
 module _ (s ps : List ℕ) (mark : Bool) (k : ℕ) where
@@ -22,10 +29,11 @@ module _ (s ps : List ℕ) (mark : Bool) (k : ℕ) where
   refusal_answers l e h =
       sym (unless_refused (pen_refusal s ps mark k) (pen_move s ps mark k) (λ z. omega (arith, e, z)) ∙ ap refused e)
 
-  pub pen_not_opened : (l : ℕ) → l ≡ open_refusal s → (l ≡ 0 → ⊥) → refused l ≡ penned s ps mark k
-  unfolding pen_refusal
-  pen_not_opened l e h =
-      refusal_answers l (first_refuses (open_refusal s) _ (λ z. h (e ∙ z)) ∙ sym e) (omega (arith, h))
+  pub pen_not_opened : (e : Refusal) (r : Result PenMove Refusal) → IsErrAnd r (λ d. d ≡ e) → refusal_number e ≡ open_refusal s
+      → answer_by move_as r ≡ penned s ps mark k
+  unfolding penned pen_refusal
+  pen_not_opened e r is h =
+      answered_by move_as (pen_refusal s ps mark k) (pen_move s ps mark k) r (passed_on _ e r is (refused_first e _ h))
 
   module _ {n : ℕ} (job : JobOf n s) where
     o : open_refusal s ≡ 0

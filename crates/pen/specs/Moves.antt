@@ -1,5 +1,6 @@
 -- What the parts of Pen answer. Pen itself, its refusals and its moves, is defined in crate paper, specs/Pen.
-use Rattle.std.specs.Prelude.{ℕ, ◌^◌, Bool, cond, ◌&&◌, List, ltb, eqb, Float}
+use Rattle.std.specs.Prelude.{ℕ, ◌^◌, Bool, cond, ◌&&◌, List, ltb, eqb, Float, get_or}
+use Rattle.exact.specs.Int.{0ℤ}
 use Rattle.exact.specs.Size.{Size}
 use Rattle.paper.specs.declared.StepPoint.{StepPoint}
 use Rattle.paper.specs.Operations.{Answer, unless, point_refusal}
@@ -11,10 +12,7 @@ whole_limit = 2 ^ 53
 
 -- the numbers of steps of a point can be cast without loss
 pub record StepSizes (p : StepPoint) : Type 0 where
-  pub x : Size whole_limit p.x
-  pub y : Size whole_limit p.y
-  pub z : Size whole_limit p.z
-  pub w : Size whole_limit p.w
+  pub each : (a : ℕ) → Size whole_limit (get_or p.steps a 0ℤ)
 
 -- behind the last of m places, with m above 0 and the mark set
 unfoldable pub closes_at : ℕ → Bool → ℕ → Bool

@@ -1,21 +1,14 @@
 -- The 16 bits of a coordinate as two bytes.
-use Prim.Native.Nat.{ℕ, ◌+◌, ◌-◌, ◌%◌, ◌/◌, ◌≤◌}
-use native.Mathlib.Numerals.{add-one}
-use native.Mathlib.Omega.{arith}
-use mathlib.Core.Path.{◌≡◌, ap, ◌∙◌}
-use mathlib.Core.Bool.{true, false, true≢false}
-use mathlib.Core.List.{List}
-use lib.IntN.{ℤ, pos, negsuc, nat_abs}
-use lib.Signed.{lt_z, mag}
-use lib.ListN.{set}
+use Rattle.std.proofs.Common.{ℕ, ◌+◌, ◌%◌, ◌/◌, ◌≤◌, ◌<◌, ◌≡◌, ap, ap₂, ◌∙◌, arith, true, List, ℤ, pos, negsuc, nat_abs, set, add-one}
+use lib.Signed.{mag}
 use lib.Seq.{sets}
-use mir.Syntax.{w64}
+use mir.Syntax.{w16, w64}
+use mir.Val.{SFits, to_z, of_z}
 use mir.ValLaws.{to_z-of_z}
 use borrow.Author.Tests.{ltb-true}
 use Rattle.exact.proofs.Bits.{back}
 use Rattle.paper.specs.Bytes.{word_of, word_bytes}
 use Rattle.paper.proofs.ShortPlaces.{short}
-use Rattle.bits.specs.Read.{Reads}
 
 -- ---- a number of 16 bits is the one that 64 bits hold
 
@@ -31,32 +24,35 @@ unfolding short
 short_size (pos a) h = omega (arith, ltb-true a 32768 h)
 short_size (negsuc a) h = omega (arith, ltb-true a 32768 h)
 
--- ---- its word: what is missing to 65,536 under 0, the number itself from 0 on
+-- ---- its bits are the word that the paper gives it
 
-below : (x : ℤ) {r : ℕ} → short x ≡ true → lt_z x (pos 0) ≡ true → r ≡ nat_abs x → Reads 65536 (word_of x) (65536 - r)
-unfolding word_of
-below (pos a) s h e = absurd (omega (arith, ltb-true a 0 h))
-below (negsuc a) s h e = record { is = omega (arith, short_size (negsuc a) s); small = omega arith }
+word_bits : (x : ℤ) → short x ≡ true → of_z w16 x ≡ word_of x
+unfolding short word_of
+word_bits (pos a) h = omega (arith, ltb-true a 32768 h)
+word_bits (negsuc a) h = omega (arith, ltb-true a 32768 h)
 
-above : (x : ℤ) {r : ℕ} → short x ≡ true → lt_z x (pos 0) ≡ false → r ≡ nat_abs x → Reads 65536 (word_of x) r
+word_small : (x : ℤ) → word_of x < 65536
 unfolding word_of
-above (pos a) s h e = record { is = omega (arith, short_size (pos a) s); small = omega (arith, short_size (pos a) s) }
-above (negsuc a) s h e = absurd (true≢false h)
+word_small (pos a) = omega arith
+word_small (negsuc a) = omega arith
 
 module _ (x : ℤ) (s : short x ≡ true) where
-  pub word_size : nat_abs (back x) ≤ 32768
-  word_size = short_size (back x) (back_short x s)
+  fits : SFits w16 x
+  unfolding short
+  fits = record { sfits = ltb-true (mag x) 32768 s }
 
-  pub word_below : {r : ℕ} → lt_z (back x) (pos 0) ≡ true → r ≡ nat_abs (back x) → Reads 65536 (word_of x) (65536 - r)
-  word_below h e = below x s (rw (short_back x s) at h) (e ∙ ap nat_abs (short_back x s))
+  pub back_fits : SFits w16 (back x)
+  back_fits = rw (short_back x s) fits
 
-  pub word_above : {r : ℕ} → lt_z (back x) (pos 0) ≡ false → r ≡ nat_abs (back x) → Reads 65536 (word_of x) r
-  word_above h e = above x s (rw (short_back x s) at h) (e ∙ ap nat_abs (short_back x s))
+  word_is : of_z w16 (to_z w16 (of_z w16 (back x))) ≡ word_of x
+  word_is = ap (λ (y : ℤ). of_z w16 (to_z w16 (of_z w16 y))) (short_back x s) ∙ ap (of_z w16) (to_z-of_z w16 x fits) ∙ word_bits x s
 
   -- its two bytes
-  pub word_stored : (b : List ℕ) (at : ℕ) {w : ℕ} → w ≡ word_of (back x)
-      → set (set b at (w % 256)) (at + 1) (w / 256) ≡ sets b at (word_bytes x)
+  pub word_stored : (b : List ℕ) (at : ℕ) {u v : ℕ}
+      → u ≡ of_z w16 (to_z w16 (of_z w16 (back x))) % 256 → v ≡ of_z w16 (to_z w16 (of_z w16 (back x))) / 256 % 256
+      → set (set b at u) (at + 1) v ≡ sets b at (word_bytes x)
   unfolding word_bytes
-  word_stored b at {w} e =
-      ap (λ k. set (set b at (k % 256)) (at + 1) (k / 256)) (e ∙ ap word_of (short_back x s))
-      ∙ ap (λ j. set (set b at (word_of x % 256)) j (word_of x / 256)) (add-one at)
+  word_stored b at {u} {v} e f =
+      let low : u ≡ word_of x % 256 = rw word_is at e in
+      let high : v ≡ word_of x / 256 = omega (arith, (rw word_is at f), word_small x) in
+      ap₂ (λ k l. set (set b at k) (at + 1) l) low high ∙ ap (λ j. set (set b at (word_of x % 256)) j (word_of x / 256)) (add-one at)

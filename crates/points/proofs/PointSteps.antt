@@ -1,12 +1,15 @@
--- What `on_axis` asks of `coordinate` and what it gets, for the cells of a crossed facet; and the definition's point, axis by axis.
-use Prim.Native.Nat.{ℕ, ◌≤◌, ◌<◌}
+-- What `point` asks of `coordinate` and what it gets, for the cells of a crossed facet; and the definition's point, axis by axis.
+use Prim.Native.Nat.{ℕ, suc, zero, ◌+◌, ◌<◌}
 use mathlib.Core.Path.{◌≡◌, refl, sym, ap, ap₂, ◌∙◌, subst}
-use mathlib.Core.Bool.{true}
+use mathlib.Core.Bool.{Bool, true, false}
 use mathlib.Core.List.{List, [], ◌∷◌}
 use native.Mathlib.Omega.{arith}
 use native.Mathlib.Nat.{le_refl}
 use lib.IntN.{ℤ}
-use lib.Dec.{lit≤}
+use lib.Dec.{lit≤, eqb, ltb}
+use lib.ListN.{length, get_or, set, take, length-set}
+use lib.Seq.{get_or-set_same, get_or-set_other}
+use borrow.Author.Tests.{eqb-true, eqb-false, ltb-true, ltb-false}
 use Rattle.exact.specs.Int.{0ℤ}
 use Rattle.exact.specs.Size.{Size, Is}
 use Rattle.exact.specs.Det.{Column, determinant}
@@ -17,21 +20,20 @@ use Rattle.paper.specs.Values.{weight_sum, coordinate_steps, point_from}
 use Rattle.paper.specs.Answers.{padded}
 use Rattle.bits.specs.Axes.{Axes}
 use Rattle.bits.proofs.EachDimension.{each_axes}
-use Rattle.places.specs.declared.Vertex.{Vertex}
-use Rattle.places.specs.declared.HeldPlace.{HeldPlace}
-use Rattle.places.specs.Held.{counted, vertex_as, masks_as, VertexSize}
+use Rattle.paper.specs.declared.Vertex.{Vertex}
+use Rattle.paper.specs.declared.HeldPlace.{HeldPlace}
+use Rattle.places.specs.Held.{counted, vertex_as, masks_as}
 use Rattle.places.proofs.PlaceStored.{masks_length}
 use Rattle.places.proofs.Counted.{number_counts, number_absent}
 use Rattle.determinants.specs.Cells.{Cells, facet_columns}
 use Rattle.determinants.specs.Entries.{determinant_limit}
 use Rattle.determinants.proofs.FacetMinors.{facet_length, facet_ones}
-use Rattle.points.specs.Coordinates.{steps_on}
-use Rattle.points.specs.Shares.{Share, denominator_limit, low_limit, steps_limit}
+use Rattle.points.specs.Shares.{Share, denominator_limit, low_limit}
 use Rattle.points.proofs.Rounded.{coordinate_size}
 use Rattle.points.proofs.Shares.{crossed_share}
 
 -- ---- an axis
-module _ {n : ℕ} {cells : List ℤ} (h : Cells n cells) (x : crossed n (facet_columns n cells n) ≡ true) (p : HeldPlace) (axis : ℕ) where
+module _ {n : ℕ} {cells : List ℤ} (h : Cells n cells) (x : crossed n (facet_columns n cells n) ≡ true) (p : HeldPlace) (three : length p.masks ≡ 3) (axis : ℕ) where
   abbrev D : ℤ
   D = determinant n (facet_columns n cells n)
 
@@ -41,7 +43,7 @@ module _ {n : ℕ} {cells : List ℤ} (h : Cells n cells) (x : crossed n (facet_
   share : Share W D
   share =
       crossed_share n (facet_columns n cells n) (omega (arith, h.axes.low)) (facet_length n cells n (le_refl n))
-      (facet_ones n cells n (le_refl n)) x (masks_as n p) (masks_length p n h.axes) axis
+      (facet_ones n cells n (le_refl n)) x (masks_as n p) (masks_length p n h.axes three) axis
 
   module _ {low d w : ℤ} (s : Size low_limit low) (ed : Is determinant_limit D d) (ew : Is determinant_limit W w) where
     d_back : back d ≡ D
@@ -58,48 +60,87 @@ module _ {n : ℕ} {cells : List ℤ} (h : Cells n cells) (x : crossed n (facet_
         let held : Share W (back d) = subst (λ z. Share W z) (sym d_back) share in
         (back_size s (lit≤ tt), (subst (Size denominator_limit) (sym d_back) D-size, subst (λ z. Share z (back d)) (sym w_back) held))
 
-    pub gives : {q : ℤ} → axis < n → q ≡ coordinate_steps (back low) (back w) (back d)
-        → Is steps_limit (steps_on n (facet_columns n cells n) (masks_as n p) axis low) (back q)
-    unfolding steps_on
-    gives l e =
-        holds_call
+    pub gives : {q : ℤ} → q ≡ coordinate_steps (back low) (back w) (back d) → back q ≡ coordinate_steps low W D
+    gives {q} e =
+        (holds_call
         (record {
-          is = e ∙ ap₂ (λ a b. coordinate_steps (back low) a b) w_back d_back
-              ∙ ap (λ a. coordinate_steps a W D) (back_is s (lit≤ tt))
-              ∙ number_counts 0ℤ n axis (coordinate_steps low W D) l;
-          size = subst (Size steps_limit) (number_counts 0ℤ n axis (coordinate_steps low W D) l) (coordinate_size (s, (D-size, share)));
+          is = e ∙ ap₂ (λ a b. coordinate_steps (back low) a b) w_back d_back ∙ ap (λ a. coordinate_steps a W D) (back_is s (lit≤ tt));
+          size = coordinate_size (s, (D-size, share));
         })
-        (lit≤ tt)
+        (lit≤ tt)).is
 
 -- ---- the point
-module _ (n : ℕ) (cs : List Column) (ms : List ℕ) where
-  pub no_axis : (axis : ℕ) (low : ℤ) → n ≤ axis → Is steps_limit (steps_on n cs ms axis low) 0ℤ
-  unfolding steps_on
-  no_axis axis low l =
-      let none = number_absent 0ℤ n axis (coordinate_steps low (weight_sum n cs 1 ms axis) (determinant n cs)) l in
-      record { is = none; size = subst (Size steps_limit) none (record { size = omega arith }) }
+-- the coordinates of the axes before `axis` are those of the definition's point, the others 0
+pub record PointBefore (n : ℕ) (cs : List Column) (ms : List ℕ) (v : Vertex) (axis : ℕ) (steps : List ℤ) : Type 0 where
+  pub count : length steps ≡ 4
+  pub each :
+      (k : ℕ) → k < 4
+      → get_or steps k 0ℤ ≡ counted 0ℤ axis k (coordinate_steps (get_or v.coordinates k 0ℤ) (weight_sum n cs 1 ms k) (determinant n cs))
 
-  -- what `on_axis` gives, for a coordinate of the lowest vertex
-  axis_is : (axis : ℕ) {low r : ℤ} → Size low_limit low → Is steps_limit (steps_on n cs ms axis (back low)) r → back r ≡ steps_on n cs ms axis low
-  axis_is axis s e = (holds_call e (lit≤ tt)).is ∙ ap (steps_on n cs ms axis) (back_is s (lit≤ tt))
+four_zeros : (k : ℕ) → get_or (0ℤ ∷ 0ℤ ∷ 0ℤ ∷ 0ℤ ∷ []) k 0ℤ ≡ 0ℤ
+four_zeros zero = refl
+four_zeros (suc zero) = refl
+four_zeros (suc (suc zero)) = refl
+four_zeros (suc (suc (suc zero))) = refl
+four_zeros (suc (suc (suc (suc k)))) = refl
 
-  module _ (v : Vertex) where
-    -- the coordinate on an axis, if it is one of m
-    abbrev among : ℕ → ℕ → ℤ → ℤ
-    among m axis low = counted 0ℤ m axis (coordinate_steps low (weight_sum n cs 1 ms axis) (determinant n cs))
+four : {A : Type 0} (d : A) (l : List A) → length l ≡ 4 → l ≡ get_or l 0 d ∷ get_or l 1 d ∷ get_or l 2 d ∷ get_or l 3 d ∷ []
+four d [] h = absurd (omega arith)
+four d (a ∷ []) h = absurd (omega arith)
+four d (a ∷ b ∷ []) h = absurd (omega arith)
+four d (a ∷ b ∷ c ∷ []) h = absurd (omega arith)
+four d (a ∷ b ∷ c ∷ e ∷ []) h = refl
+four d (a ∷ b ∷ c ∷ e ∷ f ∷ l) h = absurd (omega arith)
 
-    abbrev four : ℕ → List ℤ
-    four m = among m 0 v.x ∷ among m 1 v.y ∷ among m 2 v.z ∷ among m 3 v.w ∷ []
+module _ (n : ℕ) (cs : List Column) (ms : List ℕ) (v : Vertex) where
+  -- the coordinate on an axis
+  abbrev at : ℕ → ℤ
+  at k = coordinate_steps (get_or v.coordinates k 0ℤ) (weight_sum n cs 1 ms k) (determinant n cs)
 
-    four_is : (m : ℕ) → Axes m → four m ≡ padded 0ℤ 4 (point_from n cs ms 0 (vertex_as m v))
-    unfolding counted padded point_from vertex_as
-    four_is = each_axes (λ m. four m ≡ padded 0ℤ 4 (point_from n cs ms 0 (vertex_as m v))) refl refl refl
+  pub point_begin : PointBefore n cs ms v 0 (0ℤ ∷ 0ℤ ∷ 0ℤ ∷ 0ℤ ∷ [])
+  point_begin = record { count = refl; each = λ k l. four_zeros k ∙ number_absent 0ℤ 0 k (at k) (omega arith) }
 
-    pub point_is :
-        Axes n → VertexSize low_limit v → {x y z w : ℤ}
-        → Is steps_limit (steps_on n cs ms 0 (back v.x)) x → Is steps_limit (steps_on n cs ms 1 (back v.y)) y
-        → Is steps_limit (steps_on n cs ms 2 (back v.z)) z → Is steps_limit (steps_on n cs ms 3 (back v.w)) w
-        → ◌≡◌ {A = List ℤ} (back x ∷ back y ∷ back z ∷ back w ∷ []) (padded 0ℤ 4 (point_from n cs ms 0 (vertex_as n v)))
-    unfolding steps_on
-    point_is a s x y z w =
-        (λ i. axis_is 0 s.x x i ∷ axis_is 1 s.y y i ∷ axis_is 2 s.z z i ∷ axis_is 3 s.w w i ∷ []) ∙ four_is n a
+  pub point_next : {axis : ℕ} {steps : List ℤ} {q : ℤ} → axis < 4 → PointBefore n cs ms v axis steps → q ≡ at axis
+      → PointBefore n cs ms v (axis + 1) (set steps axis q)
+  point_next {axis} {steps} {q} l p e =
+      record { count = length-set steps axis q ∙ p.count; each = λ k b. go k b (eqb k axis) refl }
+    where
+      go : (k : ℕ) → k < 4 → (t : Bool) → eqb k axis ≡ t → get_or (set steps axis q) k 0ℤ ≡ counted 0ℤ (axis + 1) k (at k)
+      go k b true t =
+          let here : k ≡ axis = eqb-true k axis t in
+          ap (λ j. get_or (set steps axis q) j 0ℤ) here ∙ get_or-set_same steps axis q 0ℤ (omega (arith, p.count))
+          ∙ e ∙ ap at (sym here) ∙ number_counts 0ℤ (axis + 1) k (at k) (omega arith)
+      go k b false t =
+          get_or-set_other steps axis k q 0ℤ (eqb-false k axis t) ∙ p.each k b ∙ same (ltb k axis) refl
+        where
+          same : (s : Bool) → ltb k axis ≡ s → counted 0ℤ axis k (at k) ≡ counted 0ℤ (axis + 1) k (at k)
+          same true s =
+              sym (number_counts 0ℤ axis k (at k) (ltb-true k axis s)) ∙ number_counts 0ℤ (axis + 1) k (at k) (omega (arith, ltb-true k axis s))
+          same false s =
+              sym (number_absent 0ℤ axis k (at k) (ltb-false k axis s))
+              ∙ number_absent 0ℤ (axis + 1) k (at k) (omega (arith, ltb-false k axis s, eqb-false k axis t))
+
+  -- the coordinate on an axis, if it is one of m
+  abbrev among : ℕ → ℕ → ℤ → ℤ
+  among m axis low = counted 0ℤ m axis (coordinate_steps low (weight_sum n cs 1 ms axis) (determinant n cs))
+
+  four_is : (x y z w : ℤ) (m : ℕ) → Axes m
+      → among m 0 x ∷ among m 1 y ∷ among m 2 z ∷ among m 3 w ∷ [] ≡ padded 0ℤ 4 (point_from n cs ms 0 (take m (x ∷ y ∷ z ∷ w ∷ [])))
+  unfolding counted padded point_from
+  four_is x y z w =
+      each_axes
+      (λ m. among m 0 x ∷ among m 1 y ∷ among m 2 z ∷ among m 3 w ∷ [] ≡ padded 0ℤ 4 (point_from n cs ms 0 (take m (x ∷ y ∷ z ∷ w ∷ []))))
+      refl refl refl
+
+  pub point_is : {axis : ℕ} {steps : List ℤ} → Axes n → length v.coordinates ≡ 4 → axis ≡ n → PointBefore n cs ms v axis steps
+      → steps ≡ padded 0ℤ 4 (point_from n cs ms 0 (vertex_as n v))
+  unfolding vertex_as
+  point_is {axis} {steps} a count e p =
+      four 0ℤ steps p.count
+      ∙ (λ i. p.each 0 (omega arith) i ∷ p.each 1 (omega arith) i ∷ p.each 2 (omega arith) i ∷ p.each 3 (omega arith) i ∷ [])
+      ∙ ap (λ m. among m 0 (x 0) ∷ among m 1 (x 1) ∷ among m 2 (x 2) ∷ among m 3 (x 3) ∷ []) e
+      ∙ four_is (x 0) (x 1) (x 2) (x 3) n a
+      ∙ ap (λ l. padded 0ℤ 4 (point_from n cs ms 0 (take n l))) (sym (four 0ℤ v.coordinates count))
+    where
+      x : ℕ → ℤ
+      x k = get_or v.coordinates k 0ℤ

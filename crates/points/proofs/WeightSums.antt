@@ -19,7 +19,7 @@ use Rattle.exact.proofs.SizeLaws.{size_weaken}
 use Rattle.exact.proofs.Bits.{back, holds_call, fits_add, holds_add}
 use Rattle.paper.specs.Values.{has_axis, weight_sum}
 use Rattle.bits.specs.Axes.{Axes}
-use Rattle.places.specs.declared.HeldPlace.{HeldPlace}
+use Rattle.paper.specs.declared.HeldPlace.{HeldPlace}
 use Rattle.places.specs.Held.{masks_as}
 use Rattle.determinants.specs.Entries.{coefficient_limit, determinant_limit}
 
@@ -50,31 +50,16 @@ drop_none (suc m) (x ∷ xs) = drop_none m xs
 
 module _ (n : ℕ) (a : Axes n) (p : HeldPlace) where
   -- the masks of the vertices from i on
-  masks_next : (i : ℕ) → 0 < i → i < n → drop (i - 1) (masks_as n p) ≡ get_or (masks_as 4 p) (i - 1) 0 ∷ drop i (masks_as n p)
+  masks_next : length p.masks ≡ 3 → (i : ℕ) → 0 < i → i < n → drop (i - 1) (masks_as n p) ≡ get_or p.masks (i - 1) 0 ∷ drop i (masks_as n p)
   unfolding masks_as
-  masks_next i l h =
+  masks_next three i l h =
       let next : suc (i - 1) ≡ i = omega arith in
-      let masks = p.mask1 ∷ p.mask2 ∷ p.mask3 ∷ [] in
-      drop_next (i - 1) (n - 1) masks (omega arith) (omega (arith, a.high))
-      ∙ ap (λ k. get_or masks (i - 1) 0 ∷ drop k (take (n - 1) masks)) next
+      drop_next (i - 1) (n - 1) p.masks (omega arith) (omega (arith, a.high))
+      ∙ ap (λ k. get_or p.masks (i - 1) 0 ∷ drop k (take (n - 1) p.masks)) next
 
   masks_none : drop (n - 1) (masks_as n p) ≡ []
   unfolding masks_as
-  masks_none = drop_none (n - 1) (p.mask1 ∷ p.mask2 ∷ p.mask3 ∷ [])
-
--- the three ways of `mask_at`
-module _ (p : HeldPlace) (i : ℕ) where
-  pub mask_first : i ≡ 1 → p.mask1 ≡ get_or (masks_as 4 p) (i - 1) 0
-  unfolding masks_as
-  mask_first e = ap (λ k. get_or (masks_as 4 p) (k - 1) 0) (sym e)
-
-  pub mask_second : i ≡ 2 → p.mask2 ≡ get_or (masks_as 4 p) (i - 1) 0
-  unfolding masks_as
-  mask_second e = ap (λ k. get_or (masks_as 4 p) (k - 1) 0) (sym e)
-
-  pub mask_third : i ≡ 3 → p.mask3 ≡ get_or (masks_as 4 p) (i - 1) 0
-  unfolding masks_as
-  mask_third e = ap (λ k. get_or (masks_as 4 p) (k - 1) 0) (sym e)
+  masks_none = drop_none (n - 1) p.masks
 
 -- ---- the sum
 -- what vertex i adds
@@ -92,15 +77,12 @@ module _ {n : ℕ} (a : Axes n) (cs : List Column) (p : HeldPlace) (axis : ℕ) 
   summed_none = record { low = omega arith; high = omega (arith, a.low); total = zero-add _; size = record { size = lit≤ tt } }
 
   module _
-      {i : ℕ} {sum z : ℤ} (l : i < n) (s : Summed n cs p axis i sum)
-      {m : ℕ} (is-mask : m ≡ get_or (masks_as 4 p) (i - 1) 0) (given : Is coefficient_limit (weight_at n cs i m axis) z) where
-    weight_is : Is coefficient_limit (weight_at n cs i (get_or (masks_as 4 p) (i - 1) 0) axis) z
-    weight_is = subst (λ m. Is coefficient_limit (weight_at n cs i m axis) z) is-mask given
-
+      {i : ℕ} {sum z : ℤ} (l : i < n) (three : length p.masks ≡ 3) (s : Summed n cs p axis i sum)
+      (weight_is : Is coefficient_limit (weight_at n cs i (get_or p.masks (i - 1) 0) axis) z) where
     room : (i - 1) * coefficient_limit + coefficient_limit ≤ 2 ^ 63 - 1
     room = omega (arith, a.high)
 
-    added : Is ((i - 1) * coefficient_limit + coefficient_limit) (sum ⊕ weight_at n cs i (get_or (masks_as 4 p) (i - 1) 0) axis) (back (sum +ℤ back z))
+    added : Is ((i - 1) * coefficient_limit + coefficient_limit) (sum ⊕ weight_at n cs i (get_or p.masks (i - 1) 0) axis) (back (sum +ℤ back z))
     added = holds_add (record { is = refl; size = s.size }) (holds_call weight_is (lit≤ tt)) room
 
     pub summed_fits : SFits w64 (sum +ℤ back z)
@@ -111,7 +93,7 @@ module _ {n : ℕ} (a : Axes n) (cs : List Column) (p : HeldPlace) (axis : ℕ) 
     summed_next =
         let before : i + 1 - 1 ≡ i = omega arith in
         let next : suc i ≡ i + 1 = omega arith in
-        let mask = get_or (masks_as 4 p) (i - 1) 0 in
+        let mask = get_or p.masks (i - 1) 0 in
         let rest = weight_sum n cs (suc i) (drop i (masks_as n p)) axis in
         record {
           low = omega arith;
@@ -119,7 +101,7 @@ module _ {n : ℕ} (a : Axes n) (cs : List Column) (p : HeldPlace) (axis : ℕ) 
           total = ap₂ (λ x k. x ⊕ weight_sum n cs (i + 1) (drop k (masks_as n p)) axis) added.is before
               ∙ ap (λ k. sum ⊕ weight_at n cs i mask axis ⊕ weight_sum n cs k (drop i (masks_as n p)) axis) (sym next)
               ∙ add_assoc sum (weight_at n cs i mask axis) rest
-              ∙ ap (λ ms. sum ⊕ weight_sum n cs i ms axis) (sym (masks_next n a p i s.low l))
+              ∙ ap (λ ms. sum ⊕ weight_sum n cs i ms axis) (sym (masks_next n a p three i s.low l))
               ∙ s.total;
           size = subst (Size ((i + 1 - 1) * coefficient_limit)) (sym added.is) (size_weaken added.size (omega arith));
         }

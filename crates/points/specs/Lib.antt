@@ -1,3 +1,2 @@
 -- What the contracts of this crate cite, beside the definitions of the crates below.
 pub mod Shares
-pub mod Coordinates

@@ -1,9 +1,10 @@
+// The point of a crossed facet: the sums of the weights, each rounded to the nearest 1/1024.
+
 #![tactic(auto)]
 
-// The point of a crossed facet: the sums of the weights, each rounded to the nearest 1/1024.
 pub mod rounding;
 
-ghost use Rattle.std.specs.Prelude.{◌≡◌, cond, true, [], ◌∷◌, ◌-◌, ◌<◌, get_or};
+ghost use Rattle.std.specs.Prelude.{◌≡◌, cond, true, ◌<◌};
 ghost use Rattle.exact.specs.Int.{0ℤ};
 ghost use Rattle.exact.specs.Size.{Size, Is};
 ghost use Rattle.exact.specs.Det.{determinant};
@@ -13,28 +14,12 @@ ghost use Rattle.paper.specs.Answers.{padded};
 ghost use Rattle.places.specs.Held.{vertex_as, masks_as, VertexSize};
 ghost use Rattle.determinants.specs.Cells.{Cells, facet_columns};
 ghost use Rattle.determinants.specs.Entries.{coefficient_limit, determinant_limit};
-ghost use Rattle.points.specs.Coordinates.{steps_on};
-ghost use Rattle.points.specs.Shares.{Share, denominator_limit, low_limit, steps_limit};
+ghost use Rattle.points.specs.Shares.{Share, denominator_limit, low_limit};
 
 use bits::read::size;
 use determinants::{coefficient, determinant};
-use paper::StepPoint;
-use places::HeldPlace;
+use paper::{HeldPlace, StepPoint};
 use rounding::share_steps;
-
-// The mask of vertex i, which is not the lowest.
-fn mask_at(p: HeldPlace, i: usize) -> u64
-    requires { (0 < i) × (i < 4) }
-    ensures { result ≡ get_or (masks_as 4 p) (i - 1) 0 }
-{
-    if i == 1 {
-        return p.mask1;
-    }
-    if i == 2 {
-        return p.mask2;
-    }
-    p.mask3
-}
 
 // The coefficient of power 0 at vertex i if the vertex's mask has the axis, else 0.
 fn weight(n: usize, cells: &[i64; 15], i: usize, mask: u64, axis: usize) -> i64
@@ -43,20 +28,21 @@ fn weight(n: usize, cells: &[i64; 15], i: usize, mask: u64, axis: usize) -> i64
     ensures { Is coefficient_limit (cond (has_axis mask axis) (coefficient n (facet_columns n cells.now n) i 0) 0ℤ) result }
 {
     if (mask >> axis) % 2 == 1 {
-        return coefficient(n, cells, n, i, 0);
+        coefficient(n, cells, n, i, 0)
+    } else {
+        0
     }
-    0
 }
 
-// The sum of the weights, times D, of those vertices whose mask has the axis.
+// The sum of the weights, times D, of those vertices whose mask has the axis. A loop, for the reason that `determinant` has.
 fn weight_sum(n: usize, p: HeldPlace, cells: &[i64; 15], axis: usize) -> i64
     requires cells { Cells n cells.now }
     requires axis_bound { axis < 4 }
     ensures { Is determinant_limit (weight_sum n (facet_columns n cells.now n) 1 (masks_as n p) axis) result }
 {
-    let mut sum: i64 = 0;
+    let mut sum = 0;
     for i in 1..n {
-        sum += weight(n, cells, i, mask_at(p, i), axis);
+        sum += weight(n, cells, i, p.masks[i - 1], axis);
     }
     sum
 }
@@ -70,32 +56,17 @@ pub fn coordinate(low: i64, num: i64, d: i64) -> i64
     1024 * low + steps as i64
 }
 
-// The coordinate on one axis of the point of a crossed facet with determinant d, or 0 from n on; low is the lowest vertex's.
-fn on_axis(n: usize, p: HeldPlace, cells: &[i64; 15], axis: usize, low: i64, d: i64) -> i64
-    requires cells { Cells n cells.now }
-    requires n_value { crossed n (facet_columns n cells.now n) ≡ true }
-    requires size { (Size low_limit low) × (Is determinant_limit (determinant n (facet_columns n cells.now n)) d) }
-    ensures { Is steps_limit (steps_on n (facet_columns n cells.now n) (masks_as n p) axis low) result }
-{
-    if axis < n {
-        return coordinate(low, weight_sum(n, p, cells, axis), d);
-    }
-    0
-}
-
 // The point of a crossed facet, in steps of 1/1024; a coordinate from n on is 0.
 pub fn point(n: usize, p: HeldPlace, cells: &[i64; 15]) -> StepPoint
     requires cells { Cells n cells.now }
     requires n_value { crossed n (facet_columns n cells.now n) ≡ true }
     requires vertex_size { VertexSize low_limit p.low }
-    ensures { result.x ∷ result.y ∷ result.z ∷ result.w ∷ [] ≡ padded 0ℤ 4 (point_from n (facet_columns n cells.now n) (masks_as n p) 0 (vertex_as n p.low)) }
+    ensures { result.steps ≡ padded 0ℤ 4 (point_from n (facet_columns n cells.now n) (masks_as n p) 0 (vertex_as n p.low)) }
 {
-    let low = p.low;
     let d = determinant(n, cells, n);
-    StepPoint {
-        x: on_axis(n, p, cells, 0, low.x, d),
-        y: on_axis(n, p, cells, 1, low.y, d),
-        z: on_axis(n, p, cells, 2, low.z, d),
-        w: on_axis(n, p, cells, 3, low.w, d),
+    let mut steps = [0; 4];
+    for axis in 0..n {
+        steps[axis] = coordinate(p.low.coordinates[axis], weight_sum(n, p, cells, axis), d);
     }
+    StepPoint { steps }
 }

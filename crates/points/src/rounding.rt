@@ -3,6 +3,8 @@ ghost use Rattle.std.specs.Prelude.{◌≡◌, ◌<◌, ◌≤◌, pos};
 ghost use Rattle.paper.specs.Values.{share_steps};
 ghost use Rattle.points.specs.Shares.{denominator_limit};
 
+use std::cmp::Ordering;
+
 // The steps of the share num / den. 1024 · num may leave 64 bits, so it is made by ten doublings, each of which takes den out at most once:
 // then it is steps · den + rest, with rest at most den.
 pub fn share_steps(num: u64, den: u64) -> u64
@@ -11,19 +13,17 @@ pub fn share_steps(num: u64, den: u64) -> u64
 {
     let mut steps: u64 = 0;
     let mut rest = num;
-    for k in 0..10usize {
-        steps = 2 * steps;
-        rest = 2 * rest;
+    for _ in 0..10usize {
+        steps *= 2;
+        rest *= 2;
         if den <= rest {
             steps += 1;
             rest -= den;
         }
     }
-    if 2 * rest < den {
-        return steps;
+    match (2 * rest).cmp(&den) {
+        Ordering::Less => steps,
+        Ordering::Greater => steps + 1,
+        Ordering::Equal => steps + steps % 2,
     }
-    if den < 2 * rest {
-        return steps + 1;
-    }
-    steps + steps % 2
 }

@@ -1,32 +1,36 @@
 -- Powers of coordinates up to the degree's limit, the table of them, and their products: all stay far inside 64 bits.
-use mathlib.Core.Path.{◌≡◌, refl, subst, ◌∙◌}
+use mathlib.Core.Path.{◌≡◌, refl, sym, ap, ap₂, subst, ◌∙◌}
 use mathlib.Core.Bool.{Bool, true}
-use mathlib.Core.List.{List, [], ◌∷◌}
-use Prim.Native.Nat.{ℕ, suc, zero, ◌+◌, ◌^◌, ◌-◌, ◌≤◌, ◌<◌}
+use mathlib.Core.List.{List, [], ◌∷◌, map}
+use Prim.Native.Nat.{ℕ, suc, zero, ◌+◌, ◌*◌, ◌%◌, ◌^◌, ◌-◌, ◌≤◌, ◌<◌}
 use native.Mathlib.Omega.{arith}
-use native.Mathlib.Nat.{le_trans, pow-succ', pow-le-pow_right}
+use native.Mathlib.Nat.{mod-lt, le_trans, pow-succ', pow-le-pow_right}
 use lib.IntN.{ℤ, pos, nat_abs, ◌*ℤ◌}
-use lib.ListN.{length, get_or}
+use lib.ListN.{length, get_or, get_or-map, set, take, length-map, length-set}
+use lib.Seq.{get_or-set_same, get_or-set_other}
 use lib.Dec.{leb, lit≤, lit<}
+use borrow.Author.Count.{below_more}
 use lib.Pow.{pow-add}
 use mir.Syntax.{w64}
-use mir.Val.{SFits}
+use mir.Val.{SFits, to_z, of_z}
+use mir.ValLaws.{to_z-of_z, of_z_fits}
+use Rattle.std.specs.Int.{int_wrap}
+use Rattle.std.proofs.lemmas.Int.{wrapping_mul-bits, int_wrap_fits}
 use borrow.Author.Tests.{le-leb}
 use Rattle.exact.specs.Int.{◌⊗◌, power, 0ℤ}
 use Rattle.exact.specs.Size.{Size, Is}
 use Rattle.exact.proofs.Ring.{mul-one}
-use Rattle.exact.proofs.SizeLaws.{size_power}
-use Rattle.exact.proofs.Bits.{holds, holds_call, back, back_is, fits_mul, holds_mul}
+use Rattle.exact.proofs.SizeLaws.{size_power, size_weaken, size_fits_64}
+use Rattle.exact.proofs.Bits.{holds, holds_call, back, back_is, back_size, fits_mul, holds_mul}
 use Rattle.curves.specs.Step.{every}
 use Rattle.paper.specs.Limits.{coordinate_limit, degree_limit}
 use Rattle.paper.specs.RunningSum.{monomial_limit, vertex_within}
 use Rattle.paper.proofs.Taken.{take_short}
-use Rattle.bits.specs.Axes.{Axes}
-use Rattle.bits.proofs.EachDimension.{each_axes}
-use Rattle.places.specs.declared.Vertex.{Vertex}
+use Rattle.exact.proofs.AndTests.{and-true}
+use Rattle.paper.specs.declared.Vertex.{Vertex}
 use Rattle.places.specs.Held.{vertex_as}
 use Rattle.lattice.specs.Box.{Near}
-use Rattle.polynomial.specs.Sums.{PowersOf, base, Tables, tabled}
+use Rattle.polynomial.specs.Sums.{PowersOf, base, table_of, Tables, tabled}
 use Rattle.polynomial.proofs.Limits.{coordinate_word, degree_limit_lem, monomial_limit_lem}
 
 -- a power up to the degree's limit
@@ -108,6 +112,40 @@ module _ {x : ℤ} (s : Size coordinate_limit x) where
       at (suc (suc (suc (suc zero)))) l = fourth_is.1
       at (suc (suc (suc (suc (suc e))))) l = absurd (omega (arith, degree_limit_lem))
 
+-- ---- the entries as the code makes them, by products that wrap
+
+bits_lt : {z : ℤ} → Size coordinate_limit z → of_z w64 z < 18446744073709551616
+bits_lt {z} s = (of_z_fits w64 z (size_fits_64 (size_weaken s coordinate_word))).fits
+
+-- a product that fits is not changed
+wrapped : (m n : ℕ) {y z : ℤ} → m < 18446744073709551616 → n < 18446744073709551616 → to_z w64 m ≡ y → to_z w64 n ≡ z → SFits w64 (y *ℤ z)
+    → to_z w64 (m * n % 18446744073709551616) ≡ back (y *ℤ z)
+wrapped m n {y} {z} p q e g f =
+    wrapping_mul-bits w64 m n p q ∙ ap₂ (λ u v. int_wrap w64 (u *ℤ v)) e g ∙ int_wrap_fits w64 (y *ℤ z) f ∙ sym (to_z-of_z w64 (y *ℤ z) f)
+
+abbrev times : ℕ → ℕ → ℕ
+times m n = m * n % 18446744073709551616
+
+times_lt : (m n : ℕ) → times m n < 18446744073709551616
+times_lt m n = mod-lt (m * n) (lit< tt)
+
+pub wrapped_powers : {x : ℤ} → Size coordinate_limit x
+    → PowersOf x (pos 1 ∷ back x ∷ to_z w64 (times (of_z w64 x) (of_z w64 x)) ∷ to_z w64 (times (of_z w64 x) (times (of_z w64 x) (of_z w64 x)))
+    ∷ to_z w64 (times (of_z w64 x) (times (of_z w64 x) (times (of_z w64 x) (of_z w64 x)))) ∷ [])
+wrapped_powers {x} s = rw (two, three, four) (powers_of s)
+  where
+    bits : ℕ
+    bits = of_z w64 x
+
+    two : to_z w64 (times bits bits) ≡ back (square s)
+    two = wrapped bits bits (bits_lt s) (bits_lt s) refl refl (square_is s).0
+
+    three : to_z w64 (times bits (times bits bits)) ≡ back (cube s)
+    three = wrapped bits (times bits bits) (bits_lt s) (times_lt bits bits) refl two (cube_is s).0
+
+    four : to_z w64 (times bits (times bits (times bits bits))) ≡ back (fourth s)
+    four = wrapped bits (times bits (times bits bits)) (bits_lt s) (times_lt bits (times bits bits)) refl three (fourth_is s).0
+
 -- the entry 1 of the powers of x is x
 pub powers_base : {x : ℤ} {p : List ℤ} → PowersOf x p → base p ≡ x
 unfolding base power degree_limit
@@ -120,33 +158,56 @@ powers_own h = rw (powers_base h) h
 pub power_entry : {x : ℤ} {p : List ℤ} {e r : ℕ} → PowersOf x p → r ≡ e → e ≤ degree_limit → Is (coordinate_limit ^ e) (power x e) (back (get_or p r 0ℤ))
 power_entry {e = e} h i l = rw i (holds_call (h.power_at e l) (power_word e l))
 
+-- of a coordinate that is read from its bits
+pub read_back : {x : ℤ} {p : List ℤ} → Size coordinate_limit x → (Size coordinate_limit (back x) → PowersOf (back x) p) → PowersOf x p
+read_back {x} {p} s h = subst (λ y. PowersOf y p) (back_is s coordinate_word) (h (back_size s coordinate_word))
+
 -- ---- the tables of a vertex
 
-module _ {n : ℕ} {v : Vertex} {px py pz pw : List ℤ} (d : Axes n) (s : Near n v) (i : 0 < n → PowersOf (back v.x) px)
-    (j : 1 < n → PowersOf (back v.y) py) (k : 2 < n → PowersOf (back v.z) pz) (l : 3 < n → PowersOf (back v.w) pw) where
-  pub tables : Tables n px py pz pw
-  tables =
-      record {
-        x = powers_own (i (omega (arith, d.low)));
-        y = powers_own (j (omega (arith, d.low)));
-        z = λ h. powers_own (k h);
-        w = λ h. powers_own (l h);
-      }
+-- the tables of the first k axes are those of the coordinates vs
+pub record Tabling (vs : List ℤ) (k : ℕ) (ts : List (List ℤ)) : Type 0 where
+  pub count : length ts ≡ 4
+  pub each : (a : ℕ) → a < k → Size coordinate_limit (get_or vs a 0ℤ) → PowersOf (get_or vs a 0ℤ) (table_of ts a)
 
-  -- a table's base is the coordinate
-  base_is : {x : ℤ} {p : List ℤ} → Size coordinate_limit x → PowersOf (back x) p → base p ≡ x
-  base_is t h = powers_base h ∙ back_is t coordinate_word
+pub tabling_next : {vs : List ℤ} (k : ℕ) {ts : List (List ℤ)} {p : List ℤ} → k < 4 → (Size coordinate_limit (get_or vs k 0ℤ) → PowersOf (get_or vs k 0ℤ) p) → Tabling vs k ts
+    → Tabling vs (k + 1) (set ts k p)
+tabling_next {vs} k {ts} {p} l h g = record {
+  count = length-set ts k p ∙ g.count;
+  each =
+      below_more _ k
+      (λ a u m. subst (PowersOf (get_or vs a 0ℤ)) (sym (get_or-set_other ts k a p [] (λ e. omega arith))) (g.each a u m))
+      (λ m. subst (PowersOf (get_or vs k 0ℤ)) (sym (get_or-set_same ts k p [] (omega (arith, g.count)))) (h m));
+}
 
-  pub tabled_is : tabled n px py pz pw ≡ vertex_as n v
-  unfolding tabled vertex_as
-  tabled_is =
-      let x = base_is s.x (i (omega (arith, d.low))) in
-      let y = base_is s.y (j (omega (arith, d.low))) in
-      each_axes (λ m. (2 < m → base pz ≡ v.z) → (3 < m → base pw ≡ v.w) → tabled m px py pz pw ≡ vertex_as m v)
-      (λ z w. rw (x, y))
-      (λ z w. rw (x, y, z (lit< tt)))
-      (λ z w. rw (x, y, z (lit< tt), w (lit< tt)))
-      n d (λ h. base_is (s.z h) (k h)) (λ h. base_is (s.w h) (l h))
+-- ---- all tables
+
+-- lists with the same members up to n
+take_same : (n : ℕ) (xs ys : List ℤ) → length xs ≡ length ys → ((a : ℕ) → a < length xs → a < n → get_or xs a 0ℤ ≡ get_or ys a 0ℤ)
+    → take n xs ≡ take n ys
+take_same zero xs ys l h = refl
+take_same (suc n) [] [] l h = refl
+take_same (suc n) [] (y ∷ ys) l h = absurd (omega arith)
+take_same (suc n) (x ∷ xs) [] l h = absurd (omega arith)
+take_same (suc n) (x ∷ xs) (y ∷ ys) l h =
+    ap₂ (λ z zs. z ∷ zs) (h 0 (omega arith) (omega arith))
+    (take_same n xs ys (omega arith) (λ a u m. h (suc a) (omega arith) (omega arith)))
+
+-- a coordinate that the tables are of
+pub base_at : (ts : List (List ℤ)) (a : ℕ) → get_or (map base ts) a 0ℤ ≡ base (table_of ts a)
+unfolding base
+base_at ts a = get_or-map base ts a []
+
+pub tables_are : {v : Vertex} {k : ℕ} {ts : List (List ℤ)} → 4 ≤ k → Tabling v.coordinates k ts → length v.coordinates ≡ 4 → (n : ℕ) → Near n v
+    → Tables n ts × (tabled n ts ≡ vertex_as n v)
+unfolding tabled vertex_as
+tables_are {v} {k} {ts} all h e n near = (
+  record { count = h.count; each = λ a l m. powers_own (of_axis a l m) },
+  take_same n (map base ts) v.coordinates (length-map ts base ∙ h.count ∙ sym e)
+      (λ a l m. base_at ts a ∙ powers_base (of_axis a (omega (arith, length-map ts base, h.count)) m)),
+)
+  where
+    of_axis : (a : ℕ) → a < 4 → a < n → PowersOf (get_or v.coordinates a 0ℤ) (table_of ts a)
+    of_axis a l m = h.each a (omega arith) (near.each a m)
 
 -- ---- the vertex of the tables is one that a box may have
 
@@ -154,31 +215,26 @@ base_within : {p : List ℤ} → PowersOf (base p) p → leb (nat_abs (base p)) 
 unfolding power coordinate_limit degree_limit
 base_within {p} h = le-leb _ _ (subst (Size coordinate_limit) (mul-one (base p)) (h.power_at 1 (lit≤ tt)).size).size
 
-tables_within : (px py pz pw : List ℤ) (n : ℕ) → Axes n → Tables n px py pz pw → vertex_within (tabled n px py pz pw) ≡ true
-unfolding vertex_within every tabled
-tables_within px py pz pw n d t =
-    each_axes
-    (λ m. (2 < m → near pz ≡ true) → (3 < m → near pw ≡ true) → vertex_within (tabled m px py pz pw) ≡ true)
-    (λ z w. rw (x, y))
-    (λ z w. rw (x, y, z (lit< tt)))
-    (λ z w. rw (x, y, z (lit< tt), w (lit< tt)))
-    n d (λ l. base_within (t.z l)) (λ l. base_within (t.w l))
-  where
-    near : List ℤ → Bool
-    near p = leb (nat_abs (base p)) coordinate_limit
-
-    x : near px ≡ true
-    x = base_within t.x
-
-    y : near py ≡ true
-    y = base_within t.y
+-- a test that the first n members pass
+every_taken : (t : ℤ → Bool) (n : ℕ) (xs : List ℤ) → ((a : ℕ) → a < length xs → a < n → t (get_or xs a 0ℤ) ≡ true) → every t (take n xs) ≡ true
+unfolding every
+every_taken t zero xs h = refl
+every_taken t (suc n) [] h = refl
+every_taken t (suc n) (x ∷ xs) h =
+    and-true (h 0 (omega arith) (omega arith)) (every_taken t n xs (λ a l m. h (suc a) (omega arith) (omega arith)))
 
 -- what the laws of sums ask of a vertex
 pub record BoxVertex (v : List ℤ) : Type 0 where
   pub short : length v ≤ 4
   pub near : vertex_within v ≡ true
 
-pub tables_vertex : {px py pz pw : List ℤ} {n : ℕ} → Axes n → Tables n px py pz pw → BoxVertex (tabled n px py pz pw)
-unfolding tabled
-tables_vertex {px} {py} {pz} {pw} {n} d t =
-    record { short = take_short n (base px ∷ base py ∷ base pz ∷ base pw ∷ []); near = tables_within px py pz pw n d t }
+pub tables_vertex : {n : ℕ} {ts : List (List ℤ)} → Tables n ts → BoxVertex (tabled n ts)
+unfolding tabled vertex_within
+tables_vertex {n} {ts} t =
+    let count : length (map base ts) ≡ 4 = length-map ts base ∙ t.count in
+    record {
+      short = omega (arith, take_short n (map base ts), count);
+      near =
+          every_taken (λ x. leb (nat_abs x) coordinate_limit) n (map base ts)
+          (λ a l m. ap (λ x. leb (nat_abs x) coordinate_limit) (base_at ts a) ∙ base_within (t.each a (omega (arith, count)) m));
+    }

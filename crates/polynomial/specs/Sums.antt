@@ -1,6 +1,6 @@
 -- The sum of a polynomial at a vertex: a limit that keeps it inside 64 bits, what is asked of the polynomial's bytes, and the powers of
 -- a coordinate in a table, the power e at index e. Entry 1 of a table is the coordinate itself, so the tables give the vertex.
-use Rattle.std.specs.Prelude.{ℕ, ◌^◌, ◌≤◌, ◌<◌, ◌≡◌, true, List, [], ◌∷◌, ℤ, length, get_or, take}
+use Rattle.std.specs.Prelude.{ℕ, ◌^◌, ◌≤◌, ◌<◌, ◌≡◌, true, List, [], map, ℤ, length, get_or, take}
 use Rattle.exact.specs.Int.{power, 0ℤ, 1ℤ}
 use Rattle.exact.specs.Size.{Is}
 use Rattle.curves.specs.Grid.{Vertex}
@@ -28,17 +28,19 @@ pub record PowersOf (x : ℤ) (p : List ℤ) : Type 0 where
 unfoldable pub base : List ℤ → ℤ
 base p = get_or p 1 0ℤ
 
+-- the table of an axis
+abbrev pub table_of : List (List ℤ) → ℕ → List ℤ
+table_of ts a = get_or ts a []
+
 -- the tables of the axes that count
-pub record Tables (n : ℕ) (px py pz pw : List ℤ) : Type 0 where
-  pub x : PowersOf (base px) px
-  pub y : PowersOf (base py) py
-  pub z : 2 < n → PowersOf (base pz) pz
-  pub w : 3 < n → PowersOf (base pw) pw
+pub record Tables (n : ℕ) (ts : List (List ℤ)) : Type 0 where
+  pub count : length ts ≡ 4
+  pub each : (a : ℕ) → a < 4 → a < n → PowersOf (base (table_of ts a)) (table_of ts a)
 
 -- the vertex that they are of
-unfoldable pub tabled : ℕ → List ℤ → List ℤ → List ℤ → List ℤ → Vertex
-tabled n px py pz pw = take n (base px ∷ base py ∷ base pz ∷ base pw ∷ [])
+unfoldable pub tabled : ℕ → List (List ℤ) → Vertex
+tabled n ts = take n (map base ts)
 
 -- the power of an axis's coordinate in term i; 1 from axis n on
-unfoldable pub factor_on : ℕ → List ℕ → ℕ → ℕ → List ℤ → ℤ
-factor_on n b i a p = counted 1ℤ n a (power (base p) (exponent_of b i a))
+unfoldable pub factor_on : ℕ → List ℕ → ℕ → ℕ → List (List ℤ) → ℤ
+factor_on n b i a ts = counted 1ℤ n a (power (base (table_of ts a)) (exponent_of b i a))

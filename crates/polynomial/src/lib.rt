@@ -1,7 +1,8 @@
+// The exact sum of a polynomial at a vertex, from its last term to its first; the powers of the coordinates are taken from tables.
+
 #![tactic(auto)]
 
-// The exact sum of a polynomial at a vertex, from its last term to its first; the powers of the coordinates are taken from tables.
-ghost use Rattle.std.specs.Prelude.{◌^◌, ◌≤◌, ◌<◌};
+ghost use Rattle.std.specs.Prelude.{◌≡◌, ℕ, ◌^◌, ◌≤◌, ◌<◌};
 ghost use Rattle.exact.specs.Size.{Size, Is};
 ghost use Rattle.paper.specs.Limits.{coordinate_limit};
 ghost use Rattle.paper.specs.Job.{term_count, exponent_of};
@@ -9,120 +10,90 @@ ghost use Rattle.paper.specs.Values.{monomial, term_value, raw_sum};
 ghost use Rattle.paper.specs.RunningSum.{monomial_limit, term_size, partial_sum_limit, running_sum};
 ghost use Rattle.places.specs.Held.{vertex_as};
 ghost use Rattle.lattice.specs.Box.{Near};
-ghost use Rattle.polynomial.specs.Sums.{sum_limit, Polynomial, PowersOf, base, Tables, tabled, factor_on};
+ghost use Rattle.polynomial.specs.Sums.{sum_limit, Polynomial, PowersOf, Tables, tabled, factor_on};
 
 use bits::read;
-use places::Vertex;
+use paper::Vertex;
 
-// The powers 0 to 4 of the coordinate on an axis; noughts if the axis does not count.
-pub fn powers(n: usize, axis: usize, x: i64) -> [i64; 5]
-    requires { axis < n → Size coordinate_limit x }
-    ensures { axis < n → PowersOf x result }
+// The powers 0 to 4 of a coordinate. Those of an axis that does not count may leave 64 bits; they are not read, and no test of n slows a trace.
+fn powers_of(x: i64) -> [i64; 5]
+    ensures { Size coordinate_limit x → PowersOf x result }
 {
-    if n <= axis {
-        return [0i64; 5];
-    }
     let one: i64 = 1;
-    let square = x * x;
-    let cube = x * square;
-    [one, x, square, cube, x * cube]
+    let square = x.wrapping_mul(x);
+    let cube = x.wrapping_mul(square);
+    [one, x, square, cube, x.wrapping_mul(cube)]
+}
+
+// The powers of a vertex's coordinates, a table for each axis.
+pub fn powers(v: Vertex) -> [[i64; 5]; 4]
+    ensures { (n : ℕ) → Near n v → (Tables n result) × (tabled n result ≡ vertex_as n v) }
+{
+    let mut tables = [[0i64; 5]; 4];
+    for axis in 0..4 {
+        tables[axis] = powers_of(v.coordinates[axis]);
+    }
+    tables
 }
 
 // The power of one coordinate in term i; 1 from axis n on.
-fn factor(body: &[u8], n: usize, i: usize, axis: usize, p: &[i64; 5]) -> i64
+fn factor(body: &[u8], n: usize, i: usize, axis: usize, tables: &[[i64; 5]; 4]) -> i64
     requires polynomial { (Polynomial n body.now) × (i < term_count body.now) }
-    requires powers_of { axis < n → PowersOf (base p.now) p.now }
-    ensures { Is (coordinate_limit ^ exponent_of body.now i axis) (factor_on n body.now i axis p.now) result }
+    requires tables { (Tables n tables.now) × (axis < 4) }
+    ensures { Is (coordinate_limit ^ exponent_of body.now i axis) (factor_on n body.now i axis tables.now) result }
 {
-    if n <= axis {
-        return 1;
+    if axis < n {
+        tables[axis][read::byte(body, 8 * i + 4 + axis) as usize]
+    } else {
+        1
     }
-    p[read::byte(body, 8 * i + 4 + axis) as usize]
 }
 
-// The product of the powers of the coordinates in term i.
-fn monomial(
-    body: &[u8],
-    n: usize,
-    i: usize,
-    px: &[i64; 5],
-    py: &[i64; 5],
-    pz: &[i64; 5],
-    pw: &[i64; 5],
-) -> i64
+// The product of the powers of the coordinates in term i. A trace spends its time here: with a bound that is a constant the loop is unrolled.
+fn monomial(body: &[u8], n: usize, i: usize, tables: &[[i64; 5]; 4]) -> i64
     requires polynomial { (Polynomial n body.now) × (i < term_count body.now) }
-    requires tables { Tables n px.now py.now pz.now pw.now }
-    ensures { Is monomial_limit (monomial body.now i 0 (tabled n px.now py.now pz.now pw.now)) result }
+    requires tables { Tables n tables.now }
+    ensures { Is monomial_limit (monomial body.now i 0 (tabled n tables.now)) result }
 {
-    let first = factor(body, n, i, 0, px);
-    let second = factor(body, n, i, 1, py);
-    let third = factor(body, n, i, 2, pz);
-    let fourth = factor(body, n, i, 3, pw);
-    first * (second * (third * fourth))
+    let mut product: i64 = 1;
+    for axis in (0..4).rev() {
+        product = factor(body, n, i, axis, tables) * product;
+    }
+    product
 }
 
 // Term i at a vertex: the coefficient times the powers.
-fn term_value(
-    body: &[u8],
-    n: usize,
-    i: usize,
-    px: &[i64; 5],
-    py: &[i64; 5],
-    pz: &[i64; 5],
-    pw: &[i64; 5],
-) -> i64
+fn term_value(body: &[u8], n: usize, i: usize, tables: &[[i64; 5]; 4]) -> i64
     requires polynomial { (Polynomial n body.now) × (i < term_count body.now) }
-    requires tables { Tables n px.now py.now pz.now pw.now }
-    ensures { Is term_size (term_value body.now (tabled n px.now py.now pz.now pw.now) i) result }
+    requires tables { Tables n tables.now }
+    ensures { Is term_size (term_value body.now (tabled n tables.now) i) result }
 {
-    read::signed_double_word(body, 8 * i) * monomial(body, n, i, px, py, pz, pw)
-}
-
-// The exact sum of the polynomial at the vertex of the tables, from its last term to its first. A trace spends its time here: the loop stands
-// apart from that of the running sum, so that it is inlined and ends at 0.
-pub fn sum_at(
-    body: &[u8],
-    n: usize,
-    px: &[i64; 5],
-    py: &[i64; 5],
-    pz: &[i64; 5],
-    pw: &[i64; 5],
-) -> i64
-    requires polynomial { Polynomial n body.now }
-    requires tables { Tables n px.now py.now pz.now pw.now }
-    ensures { Is sum_limit (raw_sum body.now (tabled n px.now py.now pz.now pw.now)) result }
-{
-    let mut i = body.len() / 8;
-    let mut sum: i64 = 0;
-    while 0 < i {
-        i -= 1;
-        sum = sum + term_value(body, n, i, px, py, pz, pw);
-    }
-    sum
+    read::signed_double_word(body, 8 * i) * monomial(body, n, i, tables)
 }
 
 // The running sum of the polynomial at the vertex of the tables, from its last term to its first, after so many terms: that of the last ones.
-fn sum_of_last(
-    body: &[u8],
-    n: usize,
-    terms: usize,
-    px: &[i64; 5],
-    py: &[i64; 5],
-    pz: &[i64; 5],
-    pw: &[i64; 5],
-) -> i64
+// Inlined for the sake of `sum_at`, whose loop then ends at 0.
+#[inline(always)]
+fn sum_of_last(body: &[u8], n: usize, terms: usize, tables: &[[i64; 5]; 4]) -> i64
     requires polynomial { (Polynomial n body.now) × (terms ≤ term_count body.now) }
-    requires tables { Tables n px.now py.now pz.now pw.now }
-    ensures { Is (partial_sum_limit n) (running_sum body.now (tabled n px.now py.now pz.now pw.now) terms) result }
+    requires tables { Tables n tables.now }
+    ensures { Is (partial_sum_limit n) (running_sum body.now (tabled n tables.now) terms) result }
 {
-    let first = body.len() / 8 - terms;
-    let mut left = terms;
+    let count = body.len() / 8;
     let mut sum: i64 = 0;
-    while 0 < left {
-        left -= 1;
-        sum = sum + term_value(body, n, first + left, px, py, pz, pw);
+    for i in (count - terms..count).rev() {
+        sum += term_value(body, n, i, tables);
     }
     sum
+}
+
+// The exact sum of the polynomial at the vertex of the tables.
+pub fn sum_at(body: &[u8], n: usize, tables: &[[i64; 5]; 4]) -> i64
+    requires polynomial { Polynomial n body.now }
+    requires tables { Tables n tables.now }
+    ensures { Is sum_limit (raw_sum body.now (tabled n tables.now)) result }
+{
+    sum_of_last(body, n, body.len() / 8, tables)
 }
 
 // The running sum of the polynomial at a vertex, from its last term to its first, after so many terms.
@@ -131,9 +102,5 @@ pub fn running_sum(body: &[u8], n: usize, v: Vertex, terms: usize) -> i64
     requires terms_bound { terms ≤ term_count body.now }
     ensures { Is (partial_sum_limit n) (running_sum body.now (vertex_as n v) terms) result }
 {
-    let px = powers(n, 0, v.x);
-    let py = powers(n, 1, v.y);
-    let pz = powers(n, 2, v.z);
-    let pw = powers(n, 3, v.w);
-    sum_of_last(body, n, terms, &px, &py, &pz, &pw)
+    sum_of_last(body, n, terms, &powers(v))
 }

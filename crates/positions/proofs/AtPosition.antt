@@ -7,18 +7,22 @@ use mathlib.Core.List.{List}
 use lib.Dec.{eqb}
 use lib.ListN.{length}
 use borrow.Author.Tests.{eqb-true, eqb-false}
+use denote.Enum.Bare.{sameb}
 use Rattle.curves.specs.Grid.{Place}
 use Rattle.curves.specs.Walk.{Verdict, Trace}
 use Rattle.curves.specs.Step.{Stop}
 use Rattle.paper.specs.Job.{refuse_if}
 use Rattle.paper.specs.Operations.{Answer, refused, answered, unless, point_refusal, verdict_and_count}
 use Rattle.paper.specs.Pen.{place_bytes}
-use Rattle.paper.proofs.Refusals.{first_refuses, first_passes, refuse_here, unless_refused, answered_inv}
+use Rattle.paper.specs.Answers.{verdict_as}
+use Rattle.paper.specs.declared.Verdict as Code
+use Rattle.paper.specs.contracts.Verdict.{the_type}
+use Rattle.paper.proofs.Refusals.{first_refuses, first_passes, refuse_here, answered_inv}
 use Rattle.seamlist.specs.WholeTrace.{whole_trace}
 use Rattle.nesting.specs.Standing.{some}
 use Rattle.nesting.specs.CutOrder.{is_loop, on_loop, same_loop, listed_at, first_listed, position_refusal}
 use Rattle.lengths.specs.Length.{traced_from}
-use Rattle.positions.specs.Positions.{outer_of, compared_at, at_position, TakesUpTo}
+use Rattle.positions.specs.Positions.{compared_refusal, TakesUpTo}
 
 -- ---- an answer taken apart
 
@@ -66,14 +70,11 @@ module _ (s ps : List ℕ) (k : ℕ) {part : List ℕ} (is : part ≡ place_byte
   trace_at = ap (λ p. verdict_and_count (traced_from s p)) is ∙ counted_unless refusal whole
 
   -- Point refuses the place
-  pub at_refused : (m : ℕ) → refused m ≡ verdict_and_count (traced_from s part) → refused m ≡ at_position s ps k
-  unfolding at_position position_refusal
+  pub at_refused : (m : ℕ) → refused m ≡ verdict_and_count (traced_from s part) → m ≡ position_refusal s ps k
+  unfolding position_refusal
   at_refused m e =
       let r = refused_inv refusal (whole.verdict, length whole.places) m (e ∙ trace_at) in
-      sym
-      (ap (λ l. unless l (outer_of s ps k)) (first_refuses refusal _ r.some)
-      ∙ unless_refused refusal (outer_of s ps k) r.some
-      ∙ ap refused r.is)
+      sym (first_refuses refusal _ r.some ∙ r.is)
 
   pub at_taken : {v : Verdict Stop} {m : ℕ} → answered (v, m) ≡ verdict_and_count (traced_from s part) → TakenAs s ps k v
   at_taken {v} {m} e =
@@ -82,21 +83,32 @@ module _ (s ps : List ℕ) (k : ℕ) {part : List ℕ} (is : part ≡ place_byte
 
 module _ {s ps : List ℕ} {k : ℕ} {v : Verdict Stop} (t : TakenAs s ps k v) where
   -- its trace is no loop
-  pub at_no_loop : is_loop v ≡ false → refused 18 ≡ at_position s ps k
-  unfolding at_position position_refusal on_loop unless
+  pub at_no_loop : is_loop v ≡ false → 18 ≡ position_refusal s ps k
+  unfolding position_refusal on_loop
   at_no_loop e =
       let none : is_loop (whole_trace s (listed_at s ps k)).verdict ≡ false = ap is_loop t.verdict ∙ e in
-      sym (ap (λ l. unless l (outer_of s ps k)) (first_passes _ t.none ∙ refuse_here 18 0 (rw none refl)))
+      sym (first_passes _ t.none ∙ refuse_here 18 0 (rw none refl))
 
   -- it is a loop, and the earlier positions decide
-  pub at_loop : is_loop v ≡ true → compared_at s ps k ≡ at_position s ps k
-  unfolding compared_at at_position position_refusal on_loop
+  pub at_loop : is_loop v ≡ true → compared_refusal s ps k ≡ position_refusal s ps k
+  unfolding compared_refusal position_refusal on_loop
   at_loop e =
       let is : is_loop (whole_trace s (listed_at s ps k)).verdict ≡ true = ap is_loop t.verdict ∙ e in
       sym
-      (ap (λ l. unless l (outer_of s ps k))
       (first_passes _ t.none
-      ∙ ap (λ b. refuse_if (not b || some (same_loop s (listed_at s ps k)) (first_listed s ps k)) 18 0) is))
+      ∙ ap (λ b. refuse_if (not b || some (same_loop s (listed_at s ps k)) (first_listed s ps k)) 18 0) is)
+
+-- the code's test of a verdict
+pub loop_told : (v : Code.Verdict) {r b : Bool} → r ≡ not (sameb the_type v Code.TheVariants.Loop) → r ≡ not b → is_loop (verdict_as v) ≡ b
+unfolding is_loop verdict_as
+loop_told Code.TheVariants.Loop {b = true} e h = refl
+loop_told Code.TheVariants.Loop {b = false} e h = cc
+loop_told Code.TheVariants.Edge {b = true} e h = cc
+loop_told Code.TheVariants.Edge {b = false} e h = refl
+loop_told Code.TheVariants.Limit {b = true} e h = cc
+loop_told Code.TheVariants.Limit {b = false} e h = refl
+loop_told Code.TheVariants.Full {b = true} e h = cc
+loop_told Code.TheVariants.Full {b = false} e h = refl
 
 -- one more is taken
 pub takes_next : (s ps : List ℕ) (k : ℕ) → TakesUpTo s ps k → point_refusal s (place_bytes s ps k) ≡ 0 → TakesUpTo s ps (suc k)

@@ -7,12 +7,12 @@ use mathlib.Core.Bool.{Bool, true, false, not, cond, ◌&&◌}
 use mathlib.Core.List.Memᴰ
 use mathlib.Core.List.{List, [], ◌∷◌, map}
 use lib.ListN.{take, drop}
+use Rattle.std.proofs.Common.{Option, Some, None}
 use Rattle.exact.specs.Crossed.{count_from}
 use Rattle.exact.proofs.CountFrom.{count_from_next, count_from_none}
 use Rattle.curves.specs.Grid.{Place}
 use Rattle.curves.proofs.Listed.{count_from_listed}
 use Rattle.paper.specs.Job.{decode_place}
-use Rattle.paper.specs.Operations.{refused, answered, unless}
 use Rattle.paper.proofs.Refusals.{refuse_here, refuse_later}
 use Rattle.paper.proofs.PlaceLists.{part_is}
 use Rattle.job.specs.OpenJob.{JobOf}
@@ -22,7 +22,7 @@ use Rattle.nesting.specs.CutOrder.{loop_of, same_loop, row_end, loop_inside, lis
 use Rattle.nesting.proofs.Standing.{member_some}
 use Rattle.loops.specs.declared.Past as Past
 use Rattle.loops.specs.Past.{beside, told, told_of}
-use Rattle.positions.specs.Positions.{first_from, outer_of, compared_at}
+use Rattle.positions.specs.Positions.{first_from, outer_of, compared_refusal}
 use Rattle.positions.proofs.ListedPlaces.{listed_is}
 
 -- ---- what one walk tells
@@ -84,12 +84,12 @@ module _ (s ps : List ℕ) (k : ℕ) where
   unfoldable pub listed_from : ℕ → List Place
   listed_from i = map (listed_at s ps) (count_from i (k - i))
 
-  pub record Comparing (outer i : ℕ) : Type 0 where
+  pub record Comparing (outer : Option ℕ) (i : ℕ) : Type 0 where
     pub below : i ≤ k
     pub apart : some (same_loop s p) (listed_from i) ≡ false
     pub around : outer ≡ first_from (loop_inside s p) i (listed_from i)
 
-  pub comparing_begins : Comparing k k
+  pub comparing_begins : Comparing None k
   unfolding listed_from some first_from
   comparing_begins =
       let none : count_from k (k - k) ≡ [] = count_from_none k k (omega arith) in
@@ -99,7 +99,7 @@ module _ (s ps : List ℕ) (k : ℕ) where
         around = rw none refl;
       }
 
-  module _ {outer i : ℕ} (c : Comparing outer i) (h : 0 < i) where
+  module _ {outer : Option ℕ} {i : ℕ} (c : Comparing outer i) (h : 0 < i) where
     listed_next : listed_from (i - 1) ≡ listed_at s ps (i - 1) ∷ listed_from i
     unfolding listed_from
     listed_next =
@@ -107,7 +107,7 @@ module _ (s ps : List ℕ) (k : ℕ) where
         ∙ ap (λ m. listed_at s ps (i - 1) ∷ map (listed_at s ps) (count_from m (k - m))) (omega arith)
 
     -- another loop: it is around this one or not
-    pub comparing_on : {within : Bool} → Tells s p (listed_at s ps (i - 1)) false within → Comparing (cond within (i - 1) outer) (i - 1)
+    pub comparing_on : {within : Bool} → Tells s p (listed_at s ps (i - 1)) false within → Comparing (cond within (Some (i - 1)) outer) (i - 1)
     unfolding some first_from
     comparing_on {within} t =
         let next : suc (i - 1) ≡ i = omega arith in
@@ -115,23 +115,23 @@ module _ (s ps : List ℕ) (k : ℕ) where
           below = omega (arith, c.below);
           apart = ap (some (same_loop s p)) listed_next ∙ rw t.is_same c.apart;
           around =
-              ap (cond within (i - 1)) (c.around ∙ ap (λ m. first_from (loop_inside s p) m (listed_from i)) (sym next))
-              ∙ ap (λ b. cond b (i - 1) (first_from (loop_inside s p) (suc (i - 1)) (listed_from i))) (sym t.is_inside_lem)
+              ap (cond within (Some (i - 1))) (c.around ∙ ap (λ m. first_from (loop_inside s p) m (listed_from i)) (sym next))
+              ∙ ap (λ b. cond b (Some (i - 1)) (first_from (loop_inside s p) (suc (i - 1)) (listed_from i))) (sym t.is_inside_lem)
               ∙ sym (ap (first_from (loop_inside s p) (i - 1)) listed_next);
         }
 
     -- the same loop already came
-    pub compared_same : {within : Bool} → Tells s p (listed_at s ps (i - 1)) true within → refused 18 ≡ compared_at s ps k
-    unfolding compared_at first_listed unless
+    pub compared_same : {within : Bool} → Tells s p (listed_at s ps (i - 1)) true within → 18 ≡ compared_refusal s ps k
+    unfolding compared_refusal first_listed
     compared_same t =
         let came : some (same_loop s p) (first_listed s ps k) ≡ true =
         member_some (same_loop s p) (first_listed s ps k)
         (Memᴰ.map (listed_at s ps) (count_from_listed 0 k (i - 1) (omega arith) (omega (arith, c.below)))) t.is_same in
-        sym (ap (λ m. unless m (outer_of s ps k)) (refuse_here 18 0 came))
+        sym (refuse_here 18 0 came)
 
   -- all are seen
-  pub compared_all : {outer i : ℕ} → Comparing outer i → i ≤ 0 → answered outer ≡ compared_at s ps k
-  unfolding compared_at outer_of first_listed listed_from unless
+  pub compared_all : {outer : Option ℕ} {i : ℕ} → Comparing outer i → i ≤ 0 → (compared_refusal s ps k ≡ 0) × (outer ≡ outer_of s ps k)
+  unfolding compared_refusal outer_of first_listed listed_from
   compared_all {outer} {i} c h =
       let none : i ≡ 0 = omega (arith, h) in
       let all : k - i ≡ k = omega arith in
@@ -139,4 +139,4 @@ module _ (s ps : List ℕ) (k : ℕ) where
       (λ n. some (same_loop s p) (map (listed_at s ps) (count_from (sym none n) (sym all n)))) ∙ c.apart in
       let around : outer ≡ first_from (loop_inside s p) 0 (map (listed_at s ps) (count_from 0 k)) =
       c.around ∙ (λ n. first_from (loop_inside s p) (none n) (map (listed_at s ps) (count_from (none n) (all n)))) in
-      sym (ap (λ m. unless m (outer_of s ps k)) (refuse_later 18 0 apart) ∙ ap answered (sym around))
+      (refuse_later 18 0 apart, around)

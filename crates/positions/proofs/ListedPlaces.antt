@@ -1,15 +1,19 @@
 -- The places of a list by position, and their bytes as parts of the list.
-use Prim.Native.Nat.{ℕ, suc, zero, ◌+◌, ◌-◌}
+use Prim.Native.Nat.{ℕ, ◌+◌}
 use native.Mathlib.Omega.{arith}
-use mathlib.Core.Path.{◌≡◌, ap, ap₂, ◌∙◌}
+use mathlib.Core.Path.{◌≡◌, ap, ap₂, subst, ◌∙◌}
 use mathlib.Core.List.{List, [], ◌∷◌, ◌++◌, map}
 use lib.ListN.{length}
 use Rattle.exact.specs.Crossed.{count_from}
 use Rattle.exact.proofs.CountFrom.{length_map_count_from, map_count_from_last}
-use Rattle.paper.specs.Job.{dimension, decode_place}
+use Rattle.paper.specs.Job.{decode_place}
 use Rattle.paper.specs.Pen.{place_bytes}
 use Rattle.job.specs.OpenJob.{JobOf}
 use Rattle.nesting.specs.CutOrder.{listed_at, first_listed}
+
+-- a job of dimension 2
+pub plane : {n : ℕ} {s : List ℕ} → n ≡ 2 → JobOf n s → JobOf 2 s
+plane {n} {s} e j = subst (λ m. JobOf m s) e j
 
 module _ (s ps : List ℕ) where
   pub listed_last : (k : ℕ) → first_listed s ps (k + 1) ≡ first_listed s ps k ++ (listed_at s ps k ∷ [])

@@ -4,69 +4,42 @@
 #![tactic(auto)]
 
 ghost use Rattle.std.specs.Prelude.{◌≡◌, suc};
-ghost use Rattle.paper.specs.Answers.{verdict_as};
-ghost use Rattle.job.specs.OpenJob.{JobOf};
-ghost use Rattle.nesting.specs.CutOrder.{is_loop};
-ghost use Rattle.positions.specs.Positions.{compared_at, at_position, position_as, Lists, TakesUpTo};
+ghost use Rattle.paper.specs.Refusals.{RefusedOr};
+ghost use Rattle.nesting.specs.CutOrder.{position_refusal};
+ghost use Rattle.positions.specs.Positions.{outer_of, compared_refusal, Lists, TakesUpTo};
 
+use job::OpenJob;
 use loops::Past;
-use paper::{Traced, Verdict};
+use paper::{Refusal, Verdict};
 
-// What is found at a position: its refusal, or the first position whose loop has this one's inside; this position itself if there is none.
-#[derive(Clone, Copy)]
-pub enum Position {
-    Refused(u64),
-    Outer(u64),
-}
-
-// The trace is a loop.
-fn is_loop(verdict: Verdict) -> bool
-    ensures { result ≡ is_loop (verdict_as verdict) }
-{
-    match verdict {
-        Verdict::Loop => true,
-        Verdict::Edge => false,
-        Verdict::Limit => false,
-        Verdict::Full => false,
-    }
-}
-
-// The loop of position k against those of all earlier positions, from the last on: 18 if it is one of them, else the first around it.
-fn compared(job: &[u8], places: &[u8], k: usize) -> Position
-    requires { (JobOf 2 job.now) × (Lists places.now k) × (TakesUpTo job.now places.now (suc k)) }
-    ensures { position_as result ≡ compared_at job.now places.now k }
+// The loop of position k against those of all earlier positions, from the last on, so that the one kept is the first: 18 if it is one of them, else the first around it, if any.
+fn compared(job: OpenJob<'_>, places: &[u8], k: usize) -> Result<Option<usize>, Refusal>
+    requires dimension { job.n ≡ 2 }
+    requires before { (Lists places.now k) × (TakesUpTo job.bytes.now places.now (suc k)) }
+    ensures { RefusedOr (compared_refusal job.entry.bytes.now places.now k) (λ outer. outer ≡ outer_of job.entry.bytes.now places.now k) result }
 {
     let place = &places[6 * k..6 * k + 6];
-    let mut outer = k;
-    let mut j = k;
-    while 0 < j {
-        j -= 1;
-        let other = &places[6 * j..6 * j + 6];
-        match loops::walk_along(job, other, place) {
-            Past::Same => {
-                return Position::Refused(18);
-            }
-            Past::Inside => {
-                outer = j;
-            }
+    let mut outer = None;
+    for j in (0..k).rev() {
+        match loops::walk_along(job, &places[6 * j..6 * j + 6], place) {
+            Past::Same => return Err(Refusal::NoNewLoop),
+            Past::Inside => outer = Some(j),
             Past::Outside => {}
         }
     }
-    Position::Outer(outer as u64)
+    Ok(outer)
 }
 
-// Position k, where all earlier ones are refused nothing: 13, 9, 10, 11, and 18 if the trace is no loop or the loop already came.
-pub fn at_position(job: &[u8], places: &[u8], k: usize) -> Position
-    requires { (JobOf 2 job.now) × (Lists places.now k) × (TakesUpTo job.now places.now k) }
-    ensures { position_as result ≡ at_position job.now places.now k }
+// Position k, where all earlier ones are refused nothing: 13, 9, 10, 11, and 18 if the trace is no loop or the loop already came; else the first
+// position whose loop has this one's inside, if any.
+pub fn at_position(job: OpenJob<'_>, places: &[u8], k: usize) -> Result<Option<usize>, Refusal>
+    requires dimension { job.n ≡ 2 }
+    requires before { (Lists places.now k) × (TakesUpTo job.bytes.now places.now k) }
+    ensures { RefusedOr (position_refusal job.entry.bytes.now places.now k) (λ outer. outer ≡ outer_of job.entry.bytes.now places.now k) result }
 {
-    match lengths::trace_length(job, 2, &places[6 * k..6 * k + 6]) {
-        Traced::Refused(number) => Position::Refused(number),
-        Traced::Listed(verdict, _) => {
-            if is_loop(verdict) {
-                return compared(job, places, k);
-            }
-            Position::Refused(18)
-        }
+    let traced = lengths::trace_length(job, &places[6 * k..6 * k + 6])?;
+    if traced.verdict != Verdict::Loop {
+        return Err(Refusal::NoNewLoop);
     }
+    compared(job, places, k)
 }

@@ -1,4 +1,4 @@
--- Laws of the machine that the contracts of the readers speak of.
-pub mod Tokens
+-- What a reader does, byte by byte.
 pub mod Machine
 pub mod Steps
+pub mod Tokens

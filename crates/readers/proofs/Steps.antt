@@ -10,6 +10,7 @@ use native.Mathlib.Nat.{pow-le-pow_right, le_trans}
 use lib.Dec.{lit<}
 use lib.Dec.{leb, ltb}
 use lib.ListN.{length, get_or}
+use mir.Val.{bool_byte}
 use borrow.Author.Tests.{leb-true, ltb-true, ltb-false, le-leb}
 use Rattle.exact.proofs.AndTests.{and_left, and_right, and-true}
 use Rattle.formula.specs.Grammar.{Formula, number, letter, parens, raised, times, is_letter, axis_of}
@@ -399,6 +400,14 @@ unfolding sign_of step finish
 read_sign n s at ls true h = read_known n (expect true none one ls) s at 44 h ∙ ap (λ (x : State). read_from n x s (at + 1)) (negative_state n ls)
 read_sign n s at ls false h =
     same_from n (expect true none one ls) (expect false none one ls) s at refl (no_minus nesting_limit none one ls (token n (get_or s at 0)) (not_here n s at 44 h))
+
+pub behind_sign : (m : Bool) (at b : ℕ) → b ≡ bool_byte m → at + b ≡ cond m (at + 1) at
+behind_sign true at b e = ap (λ (i : ℕ). at + i) e
+behind_sign false at b e = omega (arith, e)
+
+pub from_small : (m : Bool) (b : ℕ) → b ≡ bool_byte m → b ≤ 1
+from_small true b e = omega (arith, e)
+from_small false b e = omega (arith, e)
 
 pub sign_behind : (m : Bool) (at from : ℕ) → from ≡ cond m (at + 1) at → at ≤ from
 sign_behind true at from e = omega (arith, e)

@@ -1,22 +1,23 @@
 // The four readers of a formula: sum, product, power and atom call each other in a cycle. The text is known to be a formula of dimension n whose
 // parentheses nest no deeper than 16, so that no reader meets a byte that it cannot read. The dimension and the depth say in the contracts which text
-// it is; nothing branches on them.
+// it is; nothing branches on them. They are no ghost values, since a function of a cycle with such values gets no proof.
 
 #![tactic(auto)]
 
-ghost use Rattle.std.specs.Prelude.{◌≡◌, true, cond, ◌||◌, ◌+◌, ◌<◌};
+ghost use Rattle.std.specs.Prelude.{◌≡◌, true, cond, ◌||◌, ◌<◌};
 ghost use Rattle.formula.specs.Grammar.{axis_of};
-ghost use Rattle.formula.specs.Polynomial.{Kept};
+ghost use Rattle.formula.specs.Polynomial.{sum_of, difference_of, product_of};
+ghost use Rattle.formula.specs.Meaning.{on_result, on_results, power_of};
 ghost use Rattle.coefficients.specs.Result.{result_as};
 ghost use Rattle.readers.specs.Ahead.{byte_is, is_digit, AtomAhead, ProductAhead, SumAhead, AtomRead, PowerRead, ProductRead, SumRead, NumberRead, signed_by};
 
-use coefficients::InnerResult;
+use rows::Polynomial;
 
-// What was read: where the text goes on, and the inner result.
+// What was read: where the text goes on, and the inner result. There is none if a limit was broken; the reading goes on to the end all the same.
 #[derive(Clone, Copy)]
 pub struct Part {
     pub next: usize,
-    pub result: InnerResult,
+    pub result: Option<Polynomial>,
 }
 
 // A number: where the text goes on, and its value.
@@ -27,80 +28,97 @@ struct NumberPart {
 }
 
 // Byte i of the text is b.
+#[tactic(auto, using(crate::proofs::Machine::byte_past), unfolding(crate::specs::Ahead::byte_is))]
 fn byte_is(text: &[u8], i: usize, b: u8) -> bool
     requires { 0 < b }
     ensures { result ≡ byte_is text.now i b }
 {
-    if i < text.len() {
-        return text[i] == b;
-    }
-    false
+    i < text.len() && text[i] == b
 }
 
 // Byte i of the text is a digit.
+#[tactic(auto, using(crate::proofs::Machine::byte_past), unfolding(crate::specs::Ahead::is_digit))]
 fn is_digit(text: &[u8], i: usize) -> bool
     ensures { result ≡ is_digit text.now i }
 {
-    if i < text.len() {
-        return (b'0' <= text[i]) & (text[i] <= b'9');
-    }
-    false
+    i < text.len() && text[i].is_ascii_digit()
 }
 
 // Byte i of the text is a sign.
 fn is_sign(text: &[u8], i: usize) -> bool
     ensures { result ≡ (byte_is text.now i 43 || byte_is text.now i 45) }
 {
-    byte_is(text, i, b'+') | byte_is(text, i, b'-')
+    byte_is(text, i, b'+') || byte_is(text, i, b'-')
 }
 
 // The axis of a letter.
+#[tactic(auto, unfolding(formula::specs::Grammar::axis_of))]
 fn axis_of(b: u8) -> usize
     ensures { result ≡ axis_of b }
 {
-    if b == b'x' {
-        return 0;
+    match b {
+        b'x' => 0,
+        b'y' => 1,
+        b'z' => 2,
+        _ => 3,
     }
-    if b == b'y' {
-        return 1;
-    }
-    if b == b'z' {
-        return 2;
-    }
-    3
 }
 
-// Behind an optional minus.
-fn behind_sign(at: usize, minus: bool) -> usize
-    requires { at < 9223372036854775808 }
-    ensures { result ≡ cond minus (at + 1) at }
+// An atom with its exponent.
+#[tactic(auto, unfolding(coefficients::specs::Result::result_as, formula::specs::Meaning::on_result))]
+fn raised(p: Option<Polynomial>, k: u64) -> Option<Polynomial>
+    ensures { result_as result ≡ on_result (λ x. power_of x k) (result_as p) }
+{
+    let p = p?;
+    coefficients::power(&p, k)
+}
+
+// A product with its next power.
+#[tactic(auto, unfolding(coefficients::specs::Result::result_as, formula::specs::Meaning::on_result, formula::specs::Meaning::on_results))]
+fn multiplied(p: Option<Polynomial>, q: Option<Polynomial>) -> Option<Polynomial>
+    ensures { result_as result ≡ on_results product_of (result_as p) (result_as q) }
+{
+    let p = p?;
+    let q = q?;
+    coefficients::product(&p, &q)
+}
+
+// The first product of a sum, with its optional minus. What is read says whether there is one, so that no
+// closure is known at the call.
+#[tactic(auto, unfolding(coefficients::specs::Result::result_as, formula::specs::Meaning::on_result, crate::specs::Ahead::signed_by))]
+fn signed(p: Option<Polynomial>, minus: bool) -> Option<Polynomial>
+    ensures { result_as result ≡ signed_by minus (result_as p) }
 {
     if minus {
-        return at + 1;
+        Some(coefficients::opposite(&p?))
+    } else {
+        p
     }
-    at
 }
 
-// The first product of a sum, with its optional minus.
-fn signed(p: InnerResult, minus: bool) -> InnerResult
-    requires { Kept p.cells }
-    ensures { (result_as result ≡ signed_by minus (result_as p)) × (Kept result.cells) }
+// A sum with its next product.
+#[tactic(auto, unfolding(coefficients::specs::Result::result_as, formula::specs::Meaning::on_result, formula::specs::Meaning::on_results))]
+fn joined(p: Option<Polynomial>, minus: bool, q: Option<Polynomial>) -> Option<Polynomial>
+    ensures { result_as result ≡ on_results (cond minus difference_of sum_of) (result_as p) (result_as q) }
 {
+    let p = p?;
+    let q = q?;
     if minus {
-        return coefficients::opposite(p);
+        coefficients::difference(&p, &q)
+    } else {
+        coefficients::sum(&p, &q)
     }
-    p
 }
 
-// A number of 1 to 7 digits.
+// A number of 1 to 7 digits. The loop is by hand: the value fits since the text has no more digits, which the closure of a fold would not know.
 fn read_number(text: &[u8], at: usize, n: usize, depth: usize) -> NumberPart
     requires { (AtomAhead n text.now at depth) × (is_digit text.now at ≡ true) }
     ensures { NumberRead n text.now at depth result.next result.value }
 {
-    let mut value = (text[at] - b'0') as u64;
+    let mut value = u64::from(text[at] - b'0');
     let mut next = at + 1;
     while is_digit(text, next) {
-        value = 10 * value + (text[next] - b'0') as u64;
+        value = 10 * value + u64::from(text[next] - b'0');
         next += 1;
     }
     NumberPart { next, value }
@@ -110,14 +128,13 @@ fn read_number(text: &[u8], at: usize, n: usize, depth: usize) -> NumberPart
 #[cycle(read_atom_read_power_read_product_read_sum)]
 fn read_atom(text: &[u8], at: usize, n: usize, depth: usize) -> Part
     requires { AtomAhead n text.now at depth }
-    ensures { (AtomRead n text.now at depth result.next (result_as result.result)) × (Kept result.result.cells) }
+    ensures { AtomRead n text.now at depth result.next (result_as result.result) }
 {
     if byte_is(text, at, b'(') {
         let inner = read_sum(text, at + 1, n, depth + 1);
-        let result = inner.result;
         return Part {
             next: inner.next + 1,
-            result,
+            result: inner.result,
         };
     }
     if is_digit(text, at) {
@@ -128,10 +145,10 @@ fn read_atom(text: &[u8], at: usize, n: usize, depth: usize) -> Part
             result,
         };
     }
-    let result = coefficients::variable(axis_of(text[at]));
+    let letter = coefficients::variable(axis_of(text[at]));
     Part {
         next: at + 1,
-        result,
+        result: Some(letter),
     }
 }
 
@@ -139,59 +156,58 @@ fn read_atom(text: &[u8], at: usize, n: usize, depth: usize) -> Part
 #[cycle(read_atom_read_power_read_product_read_sum)]
 fn read_power(text: &[u8], at: usize, n: usize, depth: usize) -> Part
     requires { AtomAhead n text.now at depth }
-    ensures { (PowerRead n text.now at depth result.next (result_as result.result)) × (Kept result.result.cells) }
+    ensures { PowerRead n text.now at depth result.next (result_as result.result) }
 {
     let base = read_atom(text, at, n, depth);
-    let next = base.next;
-    if byte_is(text, next, b'^') {
-        let exponent = (text[next + 1] - b'0') as u64;
-        let atom = base.result;
-        let result = coefficients::power(atom, exponent);
-        return Part {
-            next: next + 2,
-            result,
-        };
+    if !byte_is(text, base.next, b'^') {
+        return base;
     }
-    base
+    let exponent = u64::from(text[base.next + 1] - b'0');
+    let result = raised(base.result, exponent);
+    Part {
+        next: base.next + 2,
+        result,
+    }
 }
 
 // A product: powers joined by stars.
 #[cycle(read_atom_read_power_read_product_read_sum)]
 fn read_product(text: &[u8], at: usize, n: usize, depth: usize) -> Part
     requires { ProductAhead n text.now at depth }
-    ensures { (ProductRead n text.now at depth result.next (result_as result.result)) × (Kept result.result.cells) }
+    ensures { ProductRead n text.now at depth result.next (result_as result.result) }
 {
-    let first = read_power(text, at, n, depth);
-    let mut next = first.next;
-    let mut result = first.result;
-    while byte_is(text, next, b'*') {
-        let factor = read_power(text, next + 1, n, depth);
-        let by = factor.result;
-        let joined = coefficients::product(result, by);
-        next = factor.next;
-        result = joined;
+    let mut product = read_power(text, at, n, depth);
+    while byte_is(text, product.next, b'*') {
+        let factor = read_power(text, product.next + 1, n, depth);
+        let result = multiplied(product.result, factor.result);
+        product = Part {
+            next: factor.next,
+            result,
+        };
     }
-    Part { next, result }
+    product
 }
 
 // A sum: an optional minus, and products joined by plus or minus.
 #[cycle(read_atom_read_power_read_product_read_sum)]
 pub fn read_sum(text: &[u8], at: usize, n: usize, depth: usize) -> Part
     requires { SumAhead n text.now at depth }
-    ensures { (SumRead n text.now at depth result.next (result_as result.result)) × (Kept result.result.cells) }
+    ensures { SumRead n text.now at depth result.next (result_as result.result) }
 {
     let negative = byte_is(text, at, b'-');
-    let first = read_product(text, behind_sign(at, negative), n, depth);
-    let mut next = first.next;
-    let product = first.result;
-    let mut result = signed(product, negative);
-    while is_sign(text, next) {
-        let minus = byte_is(text, next, b'-');
-        let term = read_product(text, next + 1, n, depth);
-        let product = term.result;
-        let joined = coefficients::joined(result, minus, product);
-        next = term.next;
-        result = joined;
+    let first = read_product(text, at + usize::from(negative), n, depth);
+    let mut sum = Part {
+        next: first.next,
+        result: signed(first.result, negative),
+    };
+    while is_sign(text, sum.next) {
+        let minus = byte_is(text, sum.next, b'-');
+        let term = read_product(text, sum.next + 1, n, depth);
+        let result = joined(sum.result, minus, term.result);
+        sum = Part {
+            next: term.next,
+            result,
+        };
     }
-    Part { next, result }
+    sum
 }

@@ -6,8 +6,10 @@ use native.Mathlib.Omega.{arith}
 use lib.IntN.{ℤ, nat_abs}
 use Rattle.exact.specs.Size.{Size}
 use Rattle.exact.proofs.SizeLaws.{nat_abs_add, size_weaken, size_pos}
-use Rattle.formula.specs.Polynomial.{Polynomial, monomial_count, cell, zero_polynomial, add_at}
+use Rattle.paper.specs.Limits.{coefficient_limit}
+use Rattle.formula.specs.Polynomial.{Kept, Polynomial, monomial_count, cell, zero_polynomial, add_at}
 use Rattle.formula.proofs.Sizes.{length_zeros, length_add_at}
+use Rattle.formula.proofs.TermRead.{cell_within}
 use Rattle.formula.proofs.Weighted.{cell_zeros}
 use Rattle.rows.specs.Bounded.{Bounded}
 
@@ -17,6 +19,13 @@ bounded_more b l = record { long = b.long; each = λ k. size_weaken (b.each k) l
 pub zero_bounded : (m : ℕ) → Bounded m zero_polynomial
 unfolding zero_polynomial
 zero_bounded m = record { long = length_zeros monomial_count; each = λ k. rw (cell_zeros monomial_count k) (size_weaken (size_pos 0) (omega arith)) }
+
+-- ---- a polynomial within the limits of a term
+
+pub kept_bounded : (p : Polynomial) → Kept p → Bounded coefficient_limit p
+kept_bounded p k = record { long = k.0; each = λ j. record { size = cell_within p j k.1 } }
+
+-- ---- one coefficient added to
 
 add_at_size : (p : Polynomial) (k : ℕ) (x : ℤ) (j : ℕ) → nat_abs (cell (add_at p k x) j) ≤ nat_abs (cell p j) + nat_abs x
 unfolding add_at cell

@@ -1,6 +1,6 @@
 -- A product is within the limit of the degree exactly if the sum of the two degrees is.
-use Prim.Native.Nat.{ℕ, suc, zero, ◌+◌, ◌≤◌, ◌<◌}
-use mathlib.Core.Path.{◌≡◌, refl, sym, ap, ap₂, subst, ◌∙◌}
+use Prim.Native.Nat.{ℕ, suc, zero, ◌+◌, ◌≤◌, ◌<◌, max}
+use mathlib.Core.Path.{◌≡◌, refl, sym, ap, subst, ◌∙◌}
 use mathlib.Core.Bool.{Bool, true, false, cond, ◌||◌}
 use native.Mathlib.Nat.{le_trans}
 use native.Mathlib.Numerals.{add-one}
@@ -8,21 +8,19 @@ use native.Mathlib.Omega.{arith}
 use lib.IntN.{ℤ}
 use lib.Dec.{eqb, leb}
 use lib.ListN.{get_or}
-use borrow.Author.Tests.{eqb-true, eqb-false, leb-true, leb-false, le-leb, lt-leb}
+use borrow.Author.Tests.{eqb-true, eqb-false, leb-true, leb-false, le-leb}
 use mir.Syntax.{w64}
 use mir.Val.{of_z}
 use Rattle.exact.specs.Int.{0ℤ}
-use Rattle.exact.specs.Size.{Size}
-use Rattle.exact.proofs.Bits.{back}
-use Rattle.paper.specs.Limits.{coefficient_limit, degree_limit}
+use Rattle.paper.specs.Limits.{degree_limit}
 use Rattle.paper.proofs.Tests.{all_from_lem}
 use Rattle.formula.specs.Grammar.{larger}
-use Rattle.formula.specs.Polynomial.{Polynomial, monomial_count, cell, is_zero, degree_at, row_fits, fits}
+use Rattle.formula.specs.Polynomial.{Kept, Polynomial, monomial_count, cell, is_zero, degree_at, row_fits, fits}
 use Rattle.formula.proofs.Slots.{monomial_degree}
 use Rattle.formula.proofs.Weighted.{fits_pair}
-use Rattle.rows.specs.Bounded.{Bounded}
 use Rattle.rows.specs.Degree.{degree_with, degree_to, degree_of}
-use Rattle.rows.proofs.CoefficientBits.{coefficient_back, bits_zero, bits_nonzero}
+use Rattle.rows.proofs.Bounds.{kept_bounded}
+use Rattle.rows.proofs.CoefficientBits.{bits_zero, bits_nonzero}
 
 -- ---- the degree and the terms
 
@@ -127,26 +125,26 @@ fits_degree p q = go (leb (degree_of p + degree_of q) 4) refl (fits p q) refl
 
 -- ---- the code's steps
 
-module _ (d : ℕ) (x : ℤ) (k : ℕ) where
-  pub with_none : Size coefficient_limit x → of_z w64 x ≡ 0 → d ≡ degree_with d x k
-  unfolding degree_with
-  with_none s h = rw (bits_zero s h)
+larger_max : (a b : ℕ) → larger a b ≡ max a b
+unfolding larger
+larger_max a b = go (leb a b) refl
+  where
+    go : (t : Bool) → leb a b ≡ t → cond t b a ≡ max a b
+    go true e = omega (arith, leb-true a b e)
+    go false e = omega (arith, leb-false a b e)
 
-  module _ {e : ℕ} (h : of_z w64 x ≡ 0 → ⊥) (is : e ≡ degree_at k) where
-    pub with_larger : d ≤ e → e ≡ degree_with d x k
-    unfolding degree_with larger
-    with_larger l = rw (bits_nonzero x h, le-leb d (degree_at k) (omega arith)) is
+module _ (p : Polynomial) (kept : Kept p) (k : ℕ) {d : ℕ} (so_far : d ≡ degree_to p k) where
+  pub degree_none : of_z w64 (get_or p k 0ℤ) ≡ 0 → d ≡ degree_to p (k + 1)
+  unfolding degree_to degree_with cell
+  degree_none h =
+      let none : is_zero (get_or p k 0ℤ) ≡ true = bits_zero ((kept_bounded p kept).each k) h in
+      rw (add-one, none) so_far
 
-    pub with_smaller : e < d → d ≡ degree_with d x k
-    unfolding degree_with larger
-    with_smaller l = rw (bits_nonzero x h, lt-leb d (degree_at k) (omega arith))
-
-pub degree_next :
-    {p : Polynomial} (k : ℕ) {d r : ℕ} → Bounded coefficient_limit p → d ≡ degree_to p k → r ≡ degree_with d (back (get_or p k 0ℤ)) k
-    → r ≡ degree_to p (k + 1)
-unfolding degree_to cell
-degree_next {p} k {d} {r} b e h =
-    h ∙ ap₂ (λ (y : ℕ) (x : ℤ). degree_with y x k) e (coefficient_back (b.each k)) ∙ sym (ap (degree_to p) (add-one k))
+  pub degree_some : {e r : ℕ} → (of_z w64 (get_or p k 0ℤ) ≡ 0 → ⊥) → e ≡ degree_at k → r ≡ max d e → r ≡ degree_to p (k + 1)
+  unfolding degree_to degree_with cell
+  degree_some h is m =
+      let some : is_zero (get_or p k 0ℤ) ≡ false = bits_nonzero (get_or p k 0ℤ) h in
+      rw (add-one, some, larger_max) (omega (arith, so_far, is, m))
 
 pub degree_ends : (p : Polynomial) {k d : ℕ} → d ≡ degree_to p k → k ≤ 70 → 70 ≤ k → d ≡ degree_of p
 unfolding degree_of monomial_count

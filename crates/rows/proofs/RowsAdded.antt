@@ -20,7 +20,6 @@ use Rattle.rows.proofs.TermAdded.{term_bounded}
 
 -- r₀ with the first k terms of c · monomial i · q added
 pub record RowTo (c : ℤ) (i : ℕ) (q r₀ : Polynomial) (k : ℕ) (r : Polynomial) : Type 0 where
-  pub few : k ≤ 70
   pub bounded : Bounded ((70 * i + k) * term_bound) r
   pub left : add_row c i q k (70 - k) r ≡ add_row c i q 0 70 r₀
 
@@ -36,7 +35,7 @@ row_none c i q k r = refl
 
 module _ {c : ℤ} {i : ℕ} {q r₀ : Polynomial} where
   pub row_starts : Bounded (70 * i * term_bound) r₀ → RowTo c i q r₀ 0 r₀
-  row_starts b = record { few = omega arith; bounded = bounded_more b (omega arith); left = refl }
+  row_starts b = record { bounded = bounded_more b (omega arith); left = refl }
 
   pub row_next :
       {k : ℕ} {r after : Polynomial} → RowTo c i q r₀ k r → k < 70 → Size coefficient_limit c → Bounded coefficient_limit q
@@ -45,7 +44,6 @@ module _ {c : ℤ} {i : ℕ} {q r₀ : Polynomial} where
   row_next {k} {r} {after} t l sc b e =
       let is : after ≡ term_added c i (cell q k) k r = e ∙ ap (λ (x : ℤ). term_added c i x k r) (coefficient_back (b.each k)) in
       record {
-        few = omega arith;
         bounded = rw is (bounded_more (term_bounded sc (b.each k) i k t.bounded) (omega arith));
         left = rw is (sym (row_step c i q k (70 - (k + 1)) r) ∙ ap (λ (m : ℕ). add_row c i q k m r) (omega arith) ∙ t.left);
       }
@@ -56,9 +54,9 @@ module _ {c : ℤ} {i : ℕ} {q r₀ : Polynomial} where
 
 pub row_ends :
     {c : ℤ} {i : ℕ} {q r₀ : Polynomial} {k : ℕ} {r : Polynomial}
-    → Size coefficient_limit c → (of_z w64 c ≡ 0 → ⊥) → RowTo (back c) i q r₀ k r → 70 ≤ k → RowAdded c i q r₀ r
+    → Size coefficient_limit c → (of_z w64 c ≡ 0 → ⊥) → RowTo (back c) i q r₀ k r → k ≤ 70 → 70 ≤ k → RowAdded c i q r₀ r
 unfolding unless_nought monomial_count
-row_ends {c} {i} {q} {r₀} {k} {r} s h t l =
+row_ends {c} {i} {q} {r₀} {k} {r} s h t u l =
     record {
       is =
           rw (bits_nonzero c h)
@@ -71,7 +69,6 @@ row_ends {c} {i} {q} {r₀} {k} {r} s h t l =
 
 -- the first i rows of p · q
 pub record RowsTo (p q : Polynomial) (i : ℕ) (r : Polynomial) : Type 0 where
-  pub few : i ≤ 70
   pub bounded : Bounded (70 * i * term_bound) r
   pub left : add_rows p q i (70 - i) r ≡ multiplied p q
 
@@ -88,7 +85,7 @@ rows_none p q i r = refl
 module _ {p q : Polynomial} where
   pub rows_start : {r : Polynomial} → r ≡ zero_polynomial → RowsTo p q 0 r
   unfolding multiplied monomial_count
-  rows_start e = record { few = omega arith; bounded = rw e (zero_bounded 0); left = rw e }
+  rows_start e = record { bounded = rw e (zero_bounded 0); left = rw e }
 
   pub rows_next :
       {i : ℕ} {r after : Polynomial} → RowsTo p q i r → i < 70 → Bounded coefficient_limit p → RowAdded (back (get_or p i 0ℤ)) i q r after
@@ -98,13 +95,12 @@ module _ {p q : Polynomial} where
       let is : after ≡ unless_nought (cell p i) (add_row (cell p i) i q 0 monomial_count r) r =
       e.is ∙ ap (λ (x : ℤ). unless_nought x (add_row x i q 0 monomial_count r) r) (coefficient_back (b.each i)) in
       record {
-        few = omega arith;
         bounded = e.bounded;
         left =
             ap (add_rows p q (i + 1) (70 - (i + 1))) is ∙ sym (rows_step p q i (70 - (i + 1)) r)
             ∙ ap (λ (m : ℕ). add_rows p q i m r) (omega arith) ∙ t.left;
       }
 
-  pub rows_end : {i : ℕ} {r : Polynomial} → RowsTo p q i r → 70 ≤ i → (r ≡ multiplied p q) × Bounded (4900 * term_bound) r
-  rows_end {i} {r} t l =
+  pub rows_end : {i : ℕ} {r : Polynomial} → RowsTo p q i r → i ≤ 70 → 70 ≤ i → (r ≡ multiplied p q) × Bounded (4900 * term_bound) r
+  rows_end {i} {r} t u l =
       (sym (rows_none p q i r) ∙ ap (λ (m : ℕ). add_rows p q i m r) (omega arith) ∙ t.left, bounded_more t.bounded (omega arith))

@@ -1,5 +1,5 @@
 -- One product of two terms added to a coefficient, and how the sizes grow by it.
-use Prim.Native.Nat.{ℕ, suc, zero, ◌+◌, ◌*◌, ◌≤◌}
+use Prim.Native.Nat.{ℕ, suc, zero, ◌+◌, ◌*◌}
 use mathlib.Core.Path.{◌≡◌, refl, sym, ap, ◌∙◌}
 use mathlib.Core.Bool.{Bool, true, false, cond}
 use mathlib.Core.List.{[], ◌∷◌}
@@ -53,6 +53,12 @@ module _ {c x : ℤ} (sc : Size coefficient_limit c) (sx : Size coefficient_limi
         go true = bounded_more b (omega arith)
         go false = add_at_bounded (product_slot i k) b (size_mul sc sx)
 
+    -- where the product has no coefficient
+    pub term_outside : Bounded (4899 * term_bound) r → (of_z w64 x ≡ 0 → ⊥) → product_slot i k ≡ monomial_count → r ≡ term_added c i x k r
+    term_outside b h e =
+        sym (set_out r (product_slot i k) (cell r (product_slot i k) ⊕ c ⊗ x) (omega (arith, b.long)))
+        ∙ sym (add_at_set r (product_slot i k) (c ⊗ x)) ∙ sym (term_some c i x k r (bits_nonzero x h))
+
     module _ (b : Bounded (4899 * term_bound) r) {s : ℕ} (is-slot : s ≡ product_slot i k) where
       cell_held : Is (4899 * term_bound) (cell r s) (back (cell r s))
       cell_held = holds (b.each s) (lit≤ tt)
@@ -61,16 +67,8 @@ module _ {c x : ℤ} (sc : Size coefficient_limit c) (sx : Size coefficient_limi
       unfolding cell
       sum_fits = fits_add cell_held product_held (lit≤ tt)
 
-      module _ (h : of_z w64 x ≡ 0 → ⊥) where
-        slot_added : set r s (cell r s ⊕ c ⊗ x) ≡ term_added c i x k r
-        slot_added =
-            sym (add_at_set r s (c ⊗ x)) ∙ ap (λ (t : ℕ). add_at r t (c ⊗ x)) is-slot ∙ sym (term_some c i x k r (bits_nonzero x h))
-
-        pub term_put : set r s (back (back (get_or r s 0ℤ) +ℤ back (back c *ℤ back x))) ≡ term_added c i x k r
-        unfolding cell
-        term_put = ap (set r s) (holds_add cell_held product_held (lit≤ tt)).is ∙ slot_added
-
-        -- no coefficient of r stands there
-        pub term_outside : 70 ≤ s → r ≡ term_added c i x k r
-        unfolding monomial_count
-        term_outside l = sym (set_out r s (cell r s ⊕ c ⊗ x) (omega (arith, b.long))) ∙ slot_added
+      pub term_put : (of_z w64 x ≡ 0 → ⊥) → set r s (back (back (get_or r s 0ℤ) +ℤ back (back c *ℤ back x))) ≡ term_added c i x k r
+      unfolding cell
+      term_put h =
+          ap (set r s) (holds_add cell_held product_held (lit≤ tt)).is ∙ sym (add_at_set r s (c ⊗ x))
+          ∙ ap (λ (t : ℕ). add_at r t (c ⊗ x)) is-slot ∙ sym (term_some c i x k r (bits_nonzero x h))

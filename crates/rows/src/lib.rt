@@ -1,18 +1,23 @@
-// The product of two polynomials, a row of terms for each term of the first, and the test of its degree. A polynomial is an array of coefficients,
-// one for each monomial of degree at most 4.
+// Polynomials within the limits of a term, the product of two of them, a row of terms for each term of the first, and the test of its degree.
 
 #![tactic(auto)]
 
 ghost use Rattle.std.specs.Prelude.{◌≡◌, ◌*◌, ◌<◌};
 ghost use Rattle.exact.specs.Size.{Size};
 ghost use Rattle.paper.specs.Limits.{coefficient_limit};
-ghost use Rattle.formula.specs.Polynomial.{monomial_count, zero_polynomial, multiplied, fits};
-ghost use Rattle.rows.specs.Degree.{degree_with, degree_of};
+ghost use Rattle.formula.specs.Polynomial.{Kept, monomial_count, zero_polynomial, multiplied, fits};
+ghost use Rattle.rows.specs.Degree.{degree_of};
 ghost use Rattle.rows.specs.Bounded.{Bounded, RowAdded, term_bound, term_added};
 
-use monomials;
+// A coefficient for each monomial of degree at most 4, all within the limit of a term: what every inner result keeps.
+#[derive(Clone, Copy)]
+pub struct Polynomial {
+    pub cells: [i64; 70],
+    pub ghost kept: { Kept cells },
+}
 
 // The polynomial 0.
+#[tactic(auto, unfolding(formula::specs::Polynomial::zero_polynomial, formula::specs::Polynomial::zeros, formula::specs::Polynomial::monomial_count))]
 pub fn zeros() -> [i64; 70]
     ensures { result ≡ zero_polynomial }
 {
@@ -28,79 +33,55 @@ fn add_term(r: &mut [i64; 70], c: i64, i: usize, x: i64, k: usize)
     if x == 0 {
         return;
     }
-    let s = monomials::product_slot(i, k);
-    if s < 70 {
-        let more = c * x;
-        let sum = r[s] + more;
-        r[s] = sum;
+    if let Some(s) = monomials::product_slot(i, k) {
+        r[s] += c * x;
     }
 }
 
 // r with c · monomial i · q added.
-fn add_row(r: &mut [i64; 70], c: i64, i: usize, q: &[i64; 70])
-    requires i_lt_monomial_count { (i < monomial_count) × ((Size coefficient_limit c) × (Bounded coefficient_limit q.now)) }
+fn add_row(r: &mut [i64; 70], c: i64, i: usize, q: &Polynomial)
+    requires i_lt_monomial_count { (i < monomial_count) × (Size coefficient_limit c) }
     requires bounded { Bounded (70 * i * term_bound) r.old }
-    ensures { RowAdded c i q.now r.old r.new }
+    ensures { RowAdded c i q.now.cells r.old r.new }
 {
     if c == 0 {
         return;
     }
-    let mut k: usize = 0;
-    while k < 70 {
-        let x = q[k];
-        add_term(r, c, i, x, k);
-        k += 1;
+    for (k, x) in q.cells.iter().enumerate() {
+        add_term(r, c, i, *x, k);
     }
 }
 
 // The product, without the test of its limits.
-pub fn multiplied(p: &[i64; 70], q: &[i64; 70]) -> [i64; 70]
-    requires { (Bounded coefficient_limit p.now) × (Bounded coefficient_limit q.now) }
-    ensures { (result ≡ multiplied p.now q.now) × (Bounded (4900 * term_bound) result) }
+#[tactic(auto, using(crate::proofs::RowsAdded::rows_end))]
+pub fn multiplied(p: &Polynomial, q: &Polynomial) -> [i64; 70]
+    ensures { (result ≡ multiplied p.now.cells q.now.cells) × (Bounded (4900 * term_bound) result) }
 {
     let mut r = zeros();
-    let mut i: usize = 0;
-    while i < 70 {
-        let c = p[i];
-        add_row(&mut r, c, i, q);
-        i += 1;
+    for (i, c) in p.cells.iter().enumerate() {
+        add_row(&mut r, *c, i, q);
     }
     r
 }
 
-// The larger of d and the degree of monomial k, whose coefficient is x; d if that is 0.
-fn degree_with(d: u64, x: i64, k: usize) -> u64
-    requires { (k < monomial_count) × (Size coefficient_limit x) }
-    ensures { result ≡ degree_with d x k }
+// The degree of the polynomial; 0 of the polynomial 0.
+#[tactic(auto, unfolding(crate::specs::Degree::degree_to))]
+fn degree(p: &Polynomial) -> u64
+    ensures { result ≡ degree_of p.now.cells }
 {
-    if x == 0 {
-        return d;
+    let mut largest: u64 = 0;
+    for (k, x) in p.cells.iter().enumerate() {
+        if *x != 0 {
+            largest = largest.max(monomials::degree(k));
+        }
     }
-    let e = monomials::degree(k);
-    if d <= e {
-        return e;
-    }
-    d
-}
-
-// The degree of the polynomial.
-fn degree(p: &[i64; 70]) -> u64
-    requires { Bounded coefficient_limit p.now }
-    ensures { result ≡ degree_of p.now }
-{
-    let mut d: u64 = 0;
-    let mut k: usize = 0;
-    while k < 70 {
-        d = degree_with(d, p[k], k);
-        k += 1;
-    }
-    d
+    largest
 }
 
 // The product is within the limit of the degree.
-pub fn fits(p: &[i64; 70], q: &[i64; 70]) -> bool
-    requires { (Bounded coefficient_limit p.now) × (Bounded coefficient_limit q.now) }
-    ensures { result ≡ fits p.now q.now }
+#[tactic(auto, using(crate::proofs::DegreeFits::degree_small))]
+pub fn fits(p: &Polynomial, q: &Polynomial) -> bool
+    ensures { result ≡ fits p.now.cells q.now.cells }
 {
     degree(p) + degree(q) <= 4
 }

@@ -1,14 +1,13 @@
 -- The seams of a job are what is met at the vertices of its box, one after another; and what the whole scan answers and leaves in the buffer.
-use Prim.Native.Nat.{ℕ, zero, suc, ◌+◌, ◌*◌, ◌/◌, ◌^◌, ◌≤◌, ◌<◌}
+use Prim.Native.Nat.{ℕ, ◌*◌, ◌/◌, ◌≤◌, ◌<◌}
 use native.Mathlib.Nat.{mul-le-mul_left, mul-div-le, le_trans, zero-mul, zero-add}
 use native.Mathlib.Omega.{arith}
 use mathlib.Core.Path.{◌≡◌, refl, sym, ap, ap₂, subst, ◌∙◌}
-use mathlib.Core.Bool.{Bool, cond}
+use mathlib.Core.Bool.{cond}
+use Rattle.std.proofs.Common.{Err}
 use mathlib.Core.List.{List, [], ◌∷◌, ◌++◌, map}
-use lib.IntN.{ℤ}
 use lib.ListN.{length, get_or, take, drop, length-map, length-append}
 use lib.Seq.{sets, sets-eq, take_all, take-append_seam}
-use lib.Dec.{ltb}
 use borrow.Author.Tests.{lt-ltb, le-ltb}
 use Rattle.exact.specs.Crossed.{count_from}
 use Rattle.exact.proofs.CountFrom.{map_count_from_ext, map_count_from_suc}
@@ -16,19 +15,21 @@ use Rattle.curves.specs.Grid.{Facet, Place}
 use Rattle.curves.specs.Grid as Grid
 use Rattle.curves.specs.Box.{keep, pairs, box_vertices, chains, box_facets}
 use Rattle.paper.specs.Job.{dimension, open_refusal}
-use Rattle.paper.specs.Operations.{Answer, refused, answered, space_of, encode_places, places_over}
+use Rattle.paper.specs.Operations.{refused, answered, space_of, encode_places, places_over}
 use Rattle.job.specs.OpenJob.{JobOf}
-use Rattle.job.proofs.OpenJob.{job_opens}
+use Rattle.job.proofs.Opened.{job_opens}
 use Rattle.seamlist.specs.Seams.{front, seams_among}
 use Rattle.seamlist.specs.BoxIndex.{box_size, numbered}
 use Rattle.seamlist.specs.JobSeams.{low_ends, high_ends, job_facets, seam_facets, Extent, complete, full, Seams, first_seams, seamed, extent_and_count, seams_after}
-use Rattle.seamlist.specs.Answers.{seamed_as}
-use Rattle.seamlist.specs.declared.Seamed as Seamed
+use Rattle.paper.specs.Refusals.{refusal_number, answer_by}
+use Rattle.paper.specs.declared.Refusal.{Refusal}
+use Rattle.paper.proofs.Refused.{refusal_some}
+use Rattle.seamlist.specs.Answers.{extent_of, extent_count, seamed_as}
+use Rattle.seamlist.specs.declared.Extent as Code
+use Rattle.seamlist.specs.declared.Seamed.{Seamed}
 use Rattle.seamlist.proofs.BoxIndex.{length_box_vertices, get_d_box_vertices}
 use Rattle.seamlist.proofs.JobAnswers.{open_answered, refused_as_open, refused_keeps}
 use Rattle.least.specs.Search.{least_in}
-use Rattle.numbered.specs.Frame.{FrameFits}
-use Rattle.numbered.specs.declared.Frame.{Frame}
 use Rattle.chains.specs.Chains.{facet_on}
 use Rattle.scan.specs.Scanned.{space_for, Puts, NoSpace}
 use Rattle.scan.proofs.Gathered.{gathered, pairs_gathered}
@@ -75,18 +76,20 @@ met_everywhere s =
 -- ---- the answer
 
 -- what the operation says of an answer, and of the buffer
-pub record Answers (s b after : List ℕ) (r : Seamed.Seamed) : Type 0 where
-  pub answer : seamed_as r ≡ extent_and_count (seamed s (space_of s b))
+pub record Answers (s b after : List ℕ) (r : Seamed) : Type 0 where
+  pub answer : answered (extent_count r) ≡ extent_and_count (seamed s (space_of s b))
   pub buffer : after ≡ seams_after (seamed s (space_of s b)) b
 
-pub not_opened : {s : List ℕ} (b : List ℕ) {k : ℕ} → k ≡ open_refusal s → (k ≡ 0 → ⊥) → Answers s b b (Seamed.TheVariants.Refused k)
-unfolding seamed_as extent_and_count
-not_opened {s} b {k} e h =
-    let z : open_refusal s ≡ 0 → ⊥ = λ q. h (e ∙ q) in
-    record {
-      answer = ap refused e ∙ sym (ap extent_and_count (refused_as_open s (space_of s b) z));
-      buffer = sym (refused_keeps s b z);
-    }
+module _ (s b : List ℕ) (e : Refusal) (is : refusal_number e ≡ open_refusal s) where
+  not_none : open_refusal s ≡ 0 → ⊥
+  not_none z = refusal_some e (is ∙ z)
+
+  pub not_opened : seamed_as (Err e) ≡ extent_and_count (seamed s (space_of s b))
+  unfolding seamed_as answer_by extent_and_count
+  not_opened = ap refused is ∙ sym (ap extent_and_count (refused_as_open s (space_of s b) not_none))
+
+  pub not_written : b ≡ seams_after (seamed s (space_of s b)) b
+  not_written = sym (refused_keeps s b not_none)
 
 module _ {s : List ℕ} {n : ℕ} (j : JobOf n s) (b : List ℕ) where
   space_is : space_for n b ≡ space_of s b
@@ -109,28 +112,29 @@ module _ {s : List ℕ} {n : ℕ} (j : JobOf n s) (b : List ℕ) where
   given : {r : Seams} → first_seams (seam_facets s) (space_for n b) ≡ r → seamed s (space_of s b) ≡ answered r
   given e = open_answered (job_opens j) (space_of s b) ∙ ap (λ m. answered (first_seams (seam_facets s) m)) (sym space_is) ∙ ap answered e
 
-  answers : {after : List ℕ} (r : Seamed.Seamed) (t : Extent) (ps : List Place) (k : ℕ) → seamed_as r ≡ answered (t, k) → length ps ≡ k
+  answers : {after : List ℕ} (r : Seamed) (t : Extent) (ps : List Place) (k : ℕ) → extent_count r ≡ (t, k) → length ps ≡ k
       → first_seams (seam_facets s) (space_for n b) ≡ record { extent = t; places = ps } → after ≡ places_over ps b → Answers s b after r
   unfolding extent_and_count seams_after
   answers r t ps k is l e w = record {
-    answer = is ∙ ap (λ m. answered (t, m)) (sym l) ∙ sym (ap extent_and_count (given e));
+    answer = ap answered is ∙ ap (λ m. answered (t, m)) (sym l) ∙ sym (ap extent_and_count (given e));
     buffer = w ∙ sym (ap (λ a. seams_after a b) (given e));
   }
 
   -- all seams are written
-  pub all_listed : {after : List ℕ} {k : ℕ} → Puts n b 0 (seam_facets s) after k → k ≤ space_for n b → Answers s b after (Seamed.TheVariants.Complete k)
-  unfolding seamed_as first_seams
+  pub all_listed : {after : List ℕ} {k : ℕ} → Puts n b 0 (seam_facets s) after k → k ≤ space_for n b
+      → Answers s b after record { extent = Code.TheVariants.Complete; count = k }
+  unfolding extent_count extent_of first_seams
   all_listed {k = k} p l =
       let fs : List Facet = seam_facets s in
       let few : length fs ≤ space_for n b = omega (arith, p.counted) in
       let whole : take (space_for n b) fs ≡ fs = take_all (space_for n b) fs few in
-      answers (Seamed.TheVariants.Complete k) complete (map front fs) k refl (length-map fs front ∙ omega (arith, p.counted))
+      answers (record { extent = Code.TheVariants.Complete; count = k }) complete (map front fs) k refl (length-map fs front ∙ omega (arith, p.counted))
       (ap₂ (λ c ps. record { extent = cond c full complete; places = map front ps }) (le-ltb (space_for n b) (length fs) few) whole)
       (written_over p l)
 
   -- one more remains
-  pub one_left : {after : List ℕ} → NoSpace n b 0 (seam_facets s) after → Answers s b after (Seamed.TheVariants.Full (space_for n b))
-  unfolding seamed_as first_seams
+  pub one_left : {after : List ℕ} → NoSpace n b 0 (seam_facets s) after → Answers s b after record { extent = Code.TheVariants.Full; count = space_for n b }
+  unfolding extent_count extent_of first_seams
   one_left w =
       let fs : List Facet = seam_facets s in
       let size : length w.listed ≡ space_for n b = omega (arith, w.puts.counted) in
@@ -138,10 +142,6 @@ module _ {s : List ℕ} {n : ℕ} (j : JobOf n s) (b : List ℕ) where
       let these : take (space_for n b) fs ≡ w.listed =
       ap₂ take (sym size) w.is ∙ take-append_seam w.listed (w.next ∷ w.rest)
       in
-      answers (Seamed.TheVariants.Full (space_for n b)) full (map front w.listed) (space_for n b) refl (length-map w.listed front ∙ size)
+      answers (record { extent = Code.TheVariants.Full; count = space_for n b }) full (map front w.listed) (space_for n b) refl (length-map w.listed front ∙ size)
       (ap₂ (λ c ps. record { extent = cond c full complete; places = map front ps }) (lt-ltb (space_for n b) (length fs) more) these)
       (written_over w.puts (omega arith))
-
--- a box has few vertices
-pub frame_few : {f : Frame} → FrameFits f → f.size < 2 ^ 37
-frame_few f = omega (arith, f.few, f.few1, f.few2, f.few3)

@@ -6,19 +6,18 @@ use mathlib.Core.Bool.{Bool, true, false, ◌&&◌, and-false}
 use mathlib.Core.List.{List}
 use lib.IntN.{ℤ}
 use lib.ListN.{length}
-use lib.Dec.{ltb}
 use borrow.Author.Tests.{lt-ltb}
 use Rattle.exact.proofs.AndTests.{and_left, and-true}
 use Rattle.exact.specs.Crossed.{crossed}
-use Rattle.curves.specs.Grid.{Facet, Place, turn, facet_vertices, facet_ok, place_ok}
+use Rattle.curves.specs.Grid.{Facet, turn, facet_vertices, place_ok}
 use Rattle.curves.specs.Step.{readable_all, crossed_facet, traceable}
 use Rattle.curves.specs.Joined.{Traceable}
 use Rattle.curves.specs.GridDemand.{trace_of}
 use Rattle.paper.specs.Job.{dimension}
 use Rattle.paper.specs.Values.{field_of}
 use Rattle.places.specs.Held.{facet_as, place_as}
-use Rattle.places.specs.declared.HeldPlace.{HeldPlace}
-use Rattle.job.proofs.OpenJob.{job_axes}
+use Rattle.paper.specs.declared.HeldPlace.{HeldPlace}
+use Rattle.job.proofs.Opened.{job_axes}
 use Rattle.determinants.specs.Cells.{facet_columns}
 use Rattle.step.specs.Held.{Held}
 use Rattle.step.proofs.HeldPlaces.{held_form}
@@ -108,7 +107,3 @@ module _ {s : List ℕ} {n : ℕ} {p : HeldPlace} {values : List ℤ} {known : L
   -- and well-formed with side 0
   pub seam_form : least_in s f ≡ true → place_ok n (front f) ≡ true
   seam_form e = subst (λ x. place_ok n x ≡ true) (front_is n p o.side) (held_form (seam_held e))
-
--- what is taken twice is taken both times
-pub same_taken : {s : List ℕ} {n : ℕ} {f : Facet} {q r : Bool} {cells others : List ℤ} → FacetTaken s n f q cells → FacetTaken s n f r others → q ≡ true → r ≡ true
-same_taken t u h = u.test ∙ sym t.test ∙ h

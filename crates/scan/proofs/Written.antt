@@ -2,19 +2,19 @@
 use Prim.Native.Nat.{ℕ, suc, ◌+◌, ◌*◌, ◌/◌, ◌≤◌, ◌<◌}
 use native.Mathlib.Nat.{mul-zero, mul-suc, mul_comm, mul-add, mul-le-mul_left, mul-div-le, le_trans, add-zero, div-le_self}
 use native.Mathlib.Omega.{arith}
-use mathlib.Core.Path.{◌≡◌, refl, sym, ap, ap₂, subst, ◌∙◌}
+use mathlib.Core.Path.{◌≡◌, refl, sym, ap, subst, ◌∙◌}
 use mathlib.Core.Bool.{Bool, true, false, cond}
 use mathlib.Core.List.{List, [], ◌∷◌, ◌++◌, map, append-nil, append_assoc}
 use lib.ListN.{length, length-append}
 use lib.Seq.{sets, length-sets}
-use Rattle.curves.specs.Grid.{Facet, Place, place_ok}
+use Rattle.curves.specs.Grid.{Facet, place_ok}
 use Rattle.curves.specs.Box.{keep}
 use Rattle.paper.specs.Job.{encode_place}
 use Rattle.paper.specs.Operations.{encode_places}
 use Rattle.paper.proofs.Encode.{encode_length}
 use Rattle.bits.proofs.Sets.{sets_append}
 use Rattle.seamlist.specs.Seams.{front}
-use Rattle.scan.specs.declared.Scanned as Code
+use Rattle.std.proofs.Common.{Some}
 use Rattle.scan.specs.Scanned.{space_for, Puts, NoSpace, ScannedIs}
 use Rattle.scan.proofs.Gathered.{gathered, gathered_split}
 
@@ -65,7 +65,7 @@ module _ {n : ℕ} {before : List ℕ} {count : ℕ} {fs : List Facet} {here : L
 
 module _ (F : ℕ → List Facet) {n : ℕ} {before : List ℕ} {count : ℕ} (j : ℕ) {here : List ℕ} {found : ℕ}
     (p : Puts n before count (gathered F j) here found) {after : List ℕ} where
-  pub part_on : {k : ℕ} → ScannedIs n here found (F j) after (Code.TheVariants.On k) → ScannedIs n before count (gathered F (j + 1)) after (Code.TheVariants.On k)
+  pub part_on : {k : ℕ} → ScannedIs n here found (F j) after (Some k) → ScannedIs n before count (gathered F (j + 1)) after (Some k)
   unfolding gathered
   part_on {k} s =
       let next : j + 1 ≡ suc j = omega arith in
@@ -89,7 +89,7 @@ module _ (F : ℕ → List Facet) {n : ℕ} {before : List ℕ} {count : ℕ} (j
 -- ---- one facet
 
 module _ {n : ℕ} {before : List ℕ} {count : ℕ} (t : Facet → Bool) (f : Facet) (few : count ≤ space_for n before) where
-  pub facet_passed : t f ≡ false → ScannedIs n before count (keep t (f ∷ [])) before (Code.TheVariants.On count)
+  pub facet_passed : t f ≡ false → ScannedIs n before count (keep t (f ∷ [])) before (Some count)
   unfolding keep
   facet_passed h = (subst (λ l. Puts n before count l before count) (sym (ap (λ b. cond b (f ∷ []) []) h)) (puts_none n before count), few)
 
@@ -106,7 +106,7 @@ module _ {n : ℕ} {before : List ℕ} {count : ℕ} (t : Facet → Bool) (f : F
       }
 
   pub facet_put : {after : List ℕ} → t f ≡ true → count < space_for n before → place_ok n (front f) ≡ true
-      → after ≡ sets before (count * (3 * n)) (encode_place (front f)) → ScannedIs n before count (keep t (f ∷ [])) after (Code.TheVariants.On (count + 1))
+      → after ≡ sets before (count * (3 * n)) (encode_place (front f)) → ScannedIs n before count (keep t (f ∷ [])) after (Some (count + 1))
   unfolding keep encode_places
   facet_put {after} h l o e = (
     subst (λ fs. Puts n before count fs after (count + 1)) (sym (ap (λ b. cond b (f ∷ []) []) h))

@@ -1,17 +1,16 @@
 -- A part of the scan, as the code answers it: the seams that it meets are written behind those that were met before, or there is no space for one of them.
-use Rattle.std.specs.Prelude.{ℕ, ◌+◌, ◌*◌, ◌/◌, ◌≤◌, ◌≡◌, Bool, true, List, ◌∷◌, ◌++◌, map, ℤ, length}
+use Rattle.std.specs.Prelude.{ℕ, ◌+◌, ◌*◌, ◌/◌, ◌≤◌, ◌≡◌, Bool, true, List, ◌∷◌, ◌++◌, map, ℤ, length, Option, Some, None}
 use Rattle.std.proofs.lemmas.List.Edits.{sets}
 use Rattle.curves.specs.Grid.{Facet, facet_ok}
 use Rattle.paper.specs.Operations.{encode_places}
 use Rattle.places.specs.Held.{vertex_as, facet_as, VertexSize}
-use Rattle.places.specs.declared.HeldPlace.{HeldPlace}
-use Rattle.places.specs.declared.Vertex.{Vertex}
+use Rattle.paper.specs.declared.HeldPlace.{HeldPlace}
+use Rattle.paper.specs.declared.Vertex.{Vertex}
 use Rattle.job.specs.OpenJob.{JobOf}
 use Rattle.step.specs.Held.{held_limit}
 use Rattle.determinants.specs.Cells.{Cells}
 use Rattle.cube.specs.Cube.{Within, Cube, MasksUnder}
 use Rattle.seamlist.specs.Seams.{front}
-use Rattle.scan.specs.declared.Scanned as Code
 
 -- the places for which a buffer has space
 unfoldable pub space_for : ℕ → List ℕ → ℕ
@@ -31,10 +30,10 @@ pub record NoSpace (n : ℕ) (before : List ℕ) (count : ℕ) (fs : List Facet)
   pub is : fs ≡ listed ++ (next ∷ rest)
   pub puts : Puts n before count listed after (space_for n before)
 
--- what a part of the scan answers, of the seams fs that it meets
-abbrev pub ScannedIs : ℕ → List ℕ → ℕ → List Facet → List ℕ → Code.Scanned → Type 0
-ScannedIs n before count fs after (Code.TheVariants.On k) = Puts n before count fs after k × (k ≤ space_for n before)
-ScannedIs n before count fs after Code.TheVariants.Full = NoSpace n before count fs after
+-- what a part of the scan answers, of the seams fs that it meets: the number of places written so far, or none where there is no space
+abbrev pub ScannedIs : ℕ → List ℕ → ℕ → List Facet → List ℕ → Option ℕ → Type 0
+ScannedIs n before count fs after (Some k) = Puts n before count fs after k × (k ≤ space_for n before)
+ScannedIs n before count fs after None = NoSpace n before count fs after
 
 -- a facet of the cube above its lowest vertex, with side 0
 pub record OnCube (s : List ℕ) (n : ℕ) (p : HeldPlace) (values : List ℤ) (known : List Bool) : Type 0 where

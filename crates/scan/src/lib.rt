@@ -5,105 +5,84 @@
 
 ghost use Rattle.std.specs.Prelude.{◌≡◌, map, [], ◌∷◌, ◌≤◌};
 ghost use Rattle.curves.specs.Box.{keep, chains};
-ghost use Rattle.paper.specs.Operations.{space_of};
+ghost use Rattle.paper.specs.Operations.{space_of, answered};
 ghost use Rattle.seamlist.specs.JobSeams.{seamed, extent_and_count, seams_after};
-ghost use Rattle.seamlist.specs.Answers.{seamed_as};
+ghost use Rattle.seamlist.specs.Answers.{seamed_as, extent_count};
 ghost use Rattle.places.specs.Held.{vertex_as, facet_as, VertexSize};
-ghost use Rattle.job.specs.OpenJob.{JobOf};
 ghost use Rattle.least.specs.Search.{least_in};
 ghost use Rattle.chains.specs.Chains.{chain_array, facet_on};
 ghost use Rattle.scan.specs.Scanned.{space_for, ScannedIs, OnCube, CubeAt, CubeRoom};
 
+use job::OpenJob;
 use least::search;
-use places::{HeldPlace, Vertex};
-use seamlist::Seamed;
-
-// After a part of the scan: no space for one more seam, or the number of places written so far.
-#[derive(Clone, Copy)]
-pub enum Scanned {
-    Full,
-    On(usize),
-}
+use paper::{HeldPlace, Refusal, Vertex};
+use seamlist::{Extent, Seamed};
 
 // The facet is the least of its seam.
-fn is_seam(job: &[u8], n: usize, p: HeldPlace, values: &[i64; 48], known: &[bool; 16]) -> bool
-    requires { OnCube job.now n p values.now known.now }
-    ensures { result ≡ least_in job.now (facet_as n p) }
+fn is_seam(job: OpenJob<'_>, p: HeldPlace, values: &[i64; 48], known: &[bool; 16]) -> bool
+    requires { OnCube job.bytes.now job.n p values.now known.now }
+    ensures { result ≡ least_in job.entry.bytes.now (facet_as job.entry.n p) }
 {
     let mut front = [0i64; 15];
-    if !cube::take_facet(n, p, values, known, &mut front) {
+    if !cube::take_facet(job.n, p, values, known, &mut front) {
         return false;
     }
-    if !facets::crossed(n, &front, n) {
+    if !facets::crossed(job.n, &front, job.n) {
         return false;
     }
-    let mut back = [0i64; 15];
-    let _ = cube::take_facet(n, p, values, known, &mut back);
-    search::is_least(job, n, p, &mut front, &mut back)
+    let mut back = front;
+    search::is_least(job, p, &mut front, &mut back)
 }
 
-// One facet: its place is written if it is the least of its seam and there is space.
+// One facet: its place is written if it is the least of its seam; the number of places written so far, or none where there is no space for one more.
 fn at_facet(
-    job: &[u8],
-    n: usize,
+    job: OpenJob<'_>,
     p: HeldPlace,
     values: &[i64; 48],
     known: &[bool; 16],
     count: usize,
     buffer: &mut [u8],
-) -> Scanned
-    requires { (OnCube job.now n p values.now known.now) × (count ≤ space_for n buffer.old) }
-    ensures { ScannedIs n buffer.old count (keep (least_in job.now) (facet_as n p ∷ [])) buffer.new result }
+) -> Option<usize>
+    requires { (OnCube job.bytes.now job.n p values.now known.now) × (count ≤ space_for job.n buffer.old) }
+    ensures { ScannedIs job.entry.n buffer.old count (keep (least_in job.entry.bytes.now) (facet_as job.entry.n p ∷ [])) buffer.new result }
 {
-    if !is_seam(job, n, p, values, known) {
-        return Scanned::On(count);
+    if !is_seam(job, p, values, known) {
+        return Some(count);
     }
-    let size = 3 * n;
+    let size = 3 * job.n;
     if buffer.len() / size <= count {
-        return Scanned::Full;
+        return None;
     }
-    stored::write_place(buffer, count * size, n, p);
-    Scanned::On(count + 1)
+    stored::write_place(buffer, count * size, job.n, p);
+    Some(count + 1)
 }
 
 // All facets with a lowest vertex.
 fn at_vertex(
-    job: &[u8],
-    n: usize,
+    job: OpenJob<'_>,
     v: Vertex,
     table: &[u16; 75],
     values: &[i64; 48],
     known: &[bool; 16],
     count: usize,
     buffer: &mut [u8],
-) -> Scanned
-    requires { (CubeAt job.now n v values.now known.now) × ((table.now ≡ chain_array) × (count ≤ space_for n buffer.old)) }
-    ensures { ScannedIs n buffer.old count (keep (least_in job.now) (map (facet_on (vertex_as n v)) (chains n))) buffer.new result }
+) -> Option<usize>
+    requires { (CubeAt job.bytes.now job.n v values.now known.now) × ((table.now ≡ chain_array) × (count ≤ space_for job.n buffer.old)) }
+    ensures { ScannedIs job.entry.n buffer.old count (keep (least_in job.entry.bytes.now) (map (facet_on (vertex_as job.entry.n v)) (chains job.entry.n))) buffer.new result }
 {
-    let begin = chains::first(n);
-    let last = chains::count(n);
+    let begin = chains::first(job.n);
     let mut found = count;
-    let mut j: usize = 0;
-    while j < last {
-        let p = chains::place_on(v, table[begin + j]);
-        let met = at_facet(job, n, p, values, known, found, buffer);
-        match met {
-            Scanned::Full => {
-                return Scanned::Full;
-            }
-            Scanned::On(next) => {
-                found = next;
-            }
-        }
-        j += 1;
+    for chain in &table[begin..begin + chains::count(job.n)] {
+        let p = chains::place_on(v, *chain);
+        found = at_facet(job, p, values, known, found, buffer)?;
     }
-    Scanned::On(found)
+    Some(found)
 }
 
-// The values of the cube above a vertex, and then all facets with it as their lowest; none is judged where a polynomial has one side only.
+// The values of the cube above a vertex, and then all facets with it as their lowest; none is judged where a polynomial has one side only. What is
+// lent for the whole box stays in parameters: a struct of lent arrays would be lent again at each vertex.
 fn scan_vertex(
-    job: &[u8],
-    n: usize,
+    job: OpenJob<'_>,
     v: Vertex,
     table: &[u16; 75],
     one: &mut [i64; 15],
@@ -111,38 +90,35 @@ fn scan_vertex(
     known: &mut [bool; 16],
     count: usize,
     buffer: &mut [u8],
-) -> Scanned
-    requires job_of { (JobOf n job.now) × ((VertexSize 1024 v) × ((table.now ≡ chain_array) × (count ≤ space_for n buffer.old))) }
-    requires cube_room { CubeRoom n one.old values.old known.old }
-    ensures seams { ScannedIs n buffer.old count (keep (least_in job.now) (map (facet_on (vertex_as n v)) (chains n))) buffer.new result }
-    ensures room { CubeRoom n one.new values.new known.new }
+) -> Option<usize>
+    requires vertex { (VertexSize 1024 v) × ((table.now ≡ chain_array) × (count ≤ space_for job.n buffer.old)) }
+    requires cube_room { CubeRoom job.n one.old values.old known.old }
+    ensures seams { ScannedIs job.entry.n buffer.old count (keep (least_in job.entry.bytes.now) (map (facet_on (vertex_as job.entry.n v)) (chains job.entry.n))) buffer.new result }
+    ensures room { CubeRoom job.entry.n one.new values.new known.new }
 {
-    cube::fill(job, n, v, one, values, known);
-    if cube::one_sided(n, values, known) {
-        return Scanned::On(count);
+    cube::fill(job, v, one, values, known);
+    if cube::one_sided(job.n, values, known) {
+        return Some(count);
     }
-    at_vertex(job, n, v, table, values, known, count, buffer)
+    at_vertex(job, v, table, values, known, count, buffer)
 }
 
-// Every seam, in a job that has opened.
-pub fn seams_in(job: &[u8], n: usize, buffer: &mut [u8]) -> Seamed
-    requires { JobOf n job.now }
-    ensures answer { seamed_as result ≡ extent_and_count (seamed job.now (space_of job.now buffer.old)) }
-    ensures written { buffer.new ≡ seams_after (seamed job.now (space_of job.now buffer.old)) buffer.old }
+// Every seam, in a job that has opened: the count of places written to the buffer from its front on, one for each seam, and whether these are all.
+// Bytes past the last place written keep their values.
+pub fn seams_in(job: OpenJob<'_>, buffer: &mut [u8]) -> Seamed
+    ensures answer { answered (extent_count result) ≡ extent_and_count (seamed job.entry.bytes.now (space_of job.entry.bytes.now buffer.old)) }
+    ensures written { buffer.new ≡ seams_after (seamed job.entry.bytes.now (space_of job.entry.bytes.now buffer.old)) buffer.old }
 {
-    let frame = numbered::frame_of(job, n);
-    let size = frame.size;
+    let frame = numbered::frame_of(job);
     let table = chains::table();
     let mut one = [0i64; 15];
     let mut values = cube::no_values();
     let mut known = cube::none_known();
     let mut count: usize = 0;
-    let mut i: usize = 0;
-    while i < size {
+    for i in 0..frame.size {
         let v = numbered::vertex_at(frame, i);
         let met = scan_vertex(
             job,
-            n,
             v,
             &table,
             &mut one,
@@ -152,28 +128,26 @@ pub fn seams_in(job: &[u8], n: usize, buffer: &mut [u8]) -> Seamed
             buffer,
         );
         match met {
-            Scanned::Full => {
-                return Seamed::Full((buffer.len() / (3 * n)) as u64);
-            }
-            Scanned::On(next) => {
-                count = next;
+            Some(next) => count = next,
+            None => {
+                return Seamed {
+                    extent: Extent::Full,
+                    count: (buffer.len() / (3 * job.n)) as u64,
+                };
             }
         }
-        i += 1;
     }
-    Seamed::Complete(count as u64)
+    Seamed {
+        extent: Extent::Complete,
+        count: count as u64,
+    }
 }
 
-// Every seam in a box: the refusal's number, or the count of places written to the buffer from its front on, one for each seam, and whether these are all. A
-// refusal touches nothing, and bytes past the last place written keep their values.
-pub fn seams(job: &[u8], buffer: &mut [u8]) -> Seamed
+// Every seam in a box: the refusal, or what is written. A refusal touches nothing.
+pub fn seams(job: &[u8], buffer: &mut [u8]) -> Result<Seamed, Refusal>
     ensures answer { seamed_as result ≡ extent_and_count (seamed job.now (space_of job.now buffer.old)) }
     ensures written { buffer.new ≡ seams_after (seamed job.now (space_of job.now buffer.old)) buffer.old }
 {
-    let refusal = job::open_refusal(job);
-    if refusal != 0 {
-        return Seamed::Refused(refusal);
-    }
-    let n = job::opened_dimension(job);
-    seams_in(job, n, buffer)
+    let job = OpenJob::open(job)?;
+    Ok(seams_in(job, buffer))
 }

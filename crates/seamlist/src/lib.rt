@@ -2,10 +2,16 @@
 
 #![tactic(auto)]
 
-// The refusal's number, or the count of places written: all seams, or as many as there was space for, and one more remains.
-#[derive(Clone, Copy)]
-pub enum Seamed {
-    Refused(u64),
-    Complete(u64),
-    Full(u64),
+// All seams are written, or as many as there was space for, and one more remains.
+#[derive(Clone, Copy, Debug, PartialEq, Eq)]
+pub enum Extent {
+    Complete,
+    Full,
+}
+
+// The count of places written.
+#[derive(Clone, Copy, Debug, PartialEq, Eq)]
+pub struct Seamed {
+    pub extent: Extent,
+    pub count: u64,
 }

@@ -22,10 +22,10 @@ use Rattle.paper.proofs.PlacesWritten.{traceable_writable, places_read}
 use Rattle.job.specs.OpenJob.{JobOf}
 use Rattle.seamlist.specs.Seams.{front}
 use Rattle.seamlist.specs.JobSeams.{seam_facets, Extent, Seams, first_seams, seamed, extent_and_count, seams_after}
-use Rattle.seamlist.specs.Answers.{seamed_as}
-use Rattle.seamlist.specs.declared.Seamed as Seamed
+use Rattle.seamlist.specs.Answers.{extent_of, extent_count}
+use Rattle.seamlist.specs.declared.Seamed.{Seamed}
 use Rattle.seamlist.proofs.JobSeams.{job_seams, taken, first_room}
-use Rattle.seams.specs.Listed.{listed_seams, listed_as}
+use Rattle.seams.specs.Listed.{listed_seams}
 use Rattle.seams.specs.Room.{places_room}
 use Rattle.seams.specs.Shown.{HaveLines}
 
@@ -55,30 +55,18 @@ module _ (s : List ℕ) (space : ℕ) (r : Seams) (e : seamed s space ≡ answer
 -- ---- the buffer
 
 -- an extent and a count, with the places read from the buffer
-back_as : (s b rest : List ℕ) (space : ℕ) (t : Seams) → seamed s space ≡ answered t → {x : Extent} {c : ℕ}
-    → answered (x, c) ≡ extent_and_count (answered t) → answered (listed_seams s (seams_after (answered t) b ++ rest) x c) ≡ answered t
-unfolding extent_and_count seams_after places_over
-back_as s b rest space t q {x} {c} e =
-    let both : ◌≡◌ {A = Extent × ℕ} (x, c) (t.extent, length t.places) = cc in
-    let extent : x ≡ t.extent = ap (λ (a : Extent × ℕ). a.0) both in
-    let count : c ≡ length t.places = ap (λ (a : Extent × ℕ). a.1) both in
+read_back : (s b rest : List ℕ) (space : ℕ) (a : Answer Seams) → seamed s space ≡ a → (r : Seamed)
+    → answered (extent_count r) ≡ extent_and_count a → a ≡ answered (listed_seams s (seams_after a b ++ rest) r)
+unfolding extent_count extent_and_count seams_after places_over
+read_back s b rest space (refused k) q r e = cc
+read_back s b rest space (answered t) q r e =
+    let both : ◌≡◌ {A = Extent × ℕ} (extent_of r.extent, r.count) (t.extent, length t.places) = cc in
+    let extent : extent_of r.extent ≡ t.extent = ap (λ (a : Extent × ℕ). a.0) both in
+    let count : r.count ≡ length t.places = ap (λ (a : Extent × ℕ). a.1) both in
     let bytes = encode_places t.places in
-    let back : read_places (dimension s) c ((bytes ++ drop (length bytes) b) ++ rest) ≡ t.places =
+    let back : read_places (dimension s) r.count ((bytes ++ drop (length bytes) b) ++ rest) ≡ t.places =
     rw (count, append_assoc bytes (drop (length bytes) b) rest) (seams_read s space t q (drop (length bytes) b ++ rest)) in
-    λ i. answered (record { extent = extent i; places = back i })
-
-read_back : (s b rest : List ℕ) (space : ℕ) (a : Answer Seams) → seamed s space ≡ a → (r : Seamed.Seamed)
-    → seamed_as r ≡ extent_and_count a → listed_as s (seams_after a b ++ rest) r ≡ a
-unfolding seamed_as extent_and_count listed_as
-read_back s b rest space (refused k) q (Seamed.TheVariants.Refused l) e = e'
-  where
-    e' : ◌≡◌ {A = Answer Seams} (refused l) (refused k)
-    e' = let f : l ≡ k = cc in ap refused f
-read_back s b rest space (refused k) q (Seamed.TheVariants.Complete c) e = let z : ◌≡◌ {A = ℕ} 0 1 = cc in absurd (omega arith)
-read_back s b rest space (refused k) q (Seamed.TheVariants.Full c) e = let z : ◌≡◌ {A = ℕ} 0 1 = cc in absurd (omega arith)
-read_back s b rest space (answered t) q (Seamed.TheVariants.Refused l) e = let z : ◌≡◌ {A = ℕ} 0 1 = cc in absurd (omega arith)
-read_back s b rest space (answered t) q (Seamed.TheVariants.Complete c) e = back_as s b rest space t q e
-read_back s b rest space (answered t) q (Seamed.TheVariants.Full c) e = back_as s b rest space t q e
+    sym (λ i. answered (record { extent = extent i; places = back i }))
 
 pub job_range : {n : ℕ} {s : List ℕ} → JobOf n s → DimensionRange n
 job_range {n} {s} j = rw j.dimension (opens_range (opens s j.opens))
@@ -99,11 +87,11 @@ module _ {n room : ℕ} {s : List ℕ} (j : JobOf n s) (b : List ℕ) (long : le
   part_space part =
       space_is s b room listing_space (part ∙ ap (λ (m : ℕ). listing_space * (3 * m)) j.dimension) (omega (arith, job_range j, j.dimension)) (part_inside part)
 
-  pub part_listed : (r : Seamed.Seamed) {front : List ℕ}
-      → seamed_as r ≡ extent_and_count (seamed s (space_of s (take room b)))
+  pub part_listed : (r : Seamed) {front : List ℕ}
+      → answered (extent_count r) ≡ extent_and_count (seamed s (space_of s (take room b)))
       → front ≡ seams_after (seamed s (space_of s (take room b))) (take room b)
       → room ≡ listing_space * (3 * n)
-      → listed_as s (front ++ drop room b) r ≡ seamed s listing_space
+      → seamed s listing_space ≡ answered (listed_seams s (front ++ drop room b) r)
   part_listed r {front} answer written part =
       let space = part_space part in
       rw written (rw space (read_back s (take room b) (drop room b) listing_space (seamed s listing_space) refl r (rw space at answer)))
@@ -115,18 +103,18 @@ unfolding read_places
 read_places_length n zero b = refl
 read_places_length n (suc k) b = ap suc (read_places_length n k (drop (3 * n) b))
 
-module _ {n : ℕ} {s : List ℕ} (j : JobOf n s) (b : List ℕ) (x : Extent) (count : ℕ) (h : seamed s listing_space ≡ answered (listed_seams s b x count)) where
-  pub count_within : count ≤ listing_space
-  count_within = omega (arith, seams_within s listing_space (listed_seams s b x count) h, read_places_length (dimension s) count b)
+module _ {n : ℕ} {s : List ℕ} (j : JobOf n s) (b : List ℕ) (r : Seamed) (h : seamed s listing_space ≡ answered (listed_seams s b r)) where
+  pub count_within : r.count ≤ listing_space
+  count_within = omega (arith, seams_within s listing_space (listed_seams s b r) h, read_places_length (dimension s) r.count b)
 
-  pub listed_lines : length b ≡ places_room → HaveLines n s count b
+  pub listed_lines : length b ≡ places_room → HaveLines n s r.count b
   listed_lines long =
       let o = opens s j.opens in
-      let most : 3 * dimension s * count ≤ 3 * dimension s * listing_space = mul-le-mul_left (3 * dimension s) count_within in
+      let most : 3 * dimension s * r.count ≤ 3 * dimension s * listing_space = mul-le-mul_left (3 * dimension s) count_within in
       let whole : 3 * dimension s * listing_space ≤ places_room = mul-le-mul_right listing_space (omega (arith, opens_range o)) in
-      let here : HaveLines (dimension s) s count b = record {
+      let here : HaveLines (dimension s) s r.count b = record {
         job = record { opens = j.opens; dimension = refl };
         room = omega (arith, most, whole);
-        each = seams_traceable s listing_space (listed_seams s b x count) h;
+        each = seams_traceable s listing_space (listed_seams s b r) h;
       } in
       rw j.dimension here

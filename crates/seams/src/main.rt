@@ -5,53 +5,21 @@
 
 mod lines;
 
-ghost use Rattle.std.specs.Prelude.{◌≡◌, ◌≤◌, IfOk, length};
-ghost use Rattle.seams.specs.Room.{job_room, places_room, text_room};
-
 use std::io;
-use std::io::{Read, Write};
+use std::io::Write;
 
 // Room for the longest job and one byte more, so that a longer one is seen.
-fn job_space() -> [u8; 2049]
-    ensures { job_room ≡ length result }
-{
-    [0; 2049]
-}
-
+const JOB_ROOM: usize = 2049;
 // Room for 4,096 places in up to four axes.
-fn place_space() -> [u8; 49152]
-    ensures { places_room ≡ length result }
-{
-    [0; 49152]
-}
-
+const PLACES_ROOM: usize = 49152;
 // Room for the first line and 4,096 lines of seams.
-fn text_space() -> [u8; 815155]
-    ensures { text_room ≡ length result }
-{
-    [0; 815155]
-}
-
-// Reads until the bytes are full or the input ends, and answers how many were read.
-fn read_full<R: Read>(input: &mut R, bytes: &mut [u8]) -> io::Result<usize>
-    ensures { IfOk result (λ n. n ≤ length bytes.new) }
-{
-    let mut done = 0;
-    while done < bytes.len() {
-        let n = input.read(&mut bytes[done..])?;
-        if n == 0 {
-            break;
-        }
-        done += n;
-    }
-    Ok(done)
-}
+const TEXT_ROOM: usize = 815155;
 
 fn main(rt: HostRuntime) -> io::Result<()> {
-    let mut input = job_space();
-    let got = read_full(&mut rt.stdin(), &mut input)?;
-    let mut places = place_space();
-    let mut out = text_space();
-    let end = lines::put_text(&input[..got], &mut places, &mut out);
+    let mut job = input::room::<JOB_ROOM>();
+    let got = input::read_full(&mut rt.stdin(), &mut job)?;
+    let mut places = input::room::<PLACES_ROOM>();
+    let mut out = input::room::<TEXT_ROOM>();
+    let end = lines::put_text(&job[..got], &mut places, &mut out);
     rt.stdout().write_all(&out[..end])
 }

@@ -10,11 +10,11 @@ use lib.Dec.{eqb}
 use Rattle.curves.specs.Grid.{Place, place_at, exchange, pivot_first, pivot_last, pivot_at}
 use Rattle.curves.specs.Grid as Grid
 use Rattle.curves.proofs.Vertices.{up_down, down_up}
-use Rattle.places.specs.declared.Vertex.{Vertex}
-use Rattle.places.specs.declared.HeldPlace.{HeldPlace}
+use Rattle.paper.specs.declared.Vertex.{Vertex}
+use Rattle.paper.specs.declared.HeldPlace.{HeldPlace}
 use Rattle.places.specs.Held.{vertex_as, masks_as, facet_as, place_as}
 use Rattle.table.specs.Table.{order_at, InTable}
-use Rattle.sides.specs.Facets.{masks_at, side_at, facet_mask}
+use Rattle.sides.specs.Facets.{masks_at, side_at, facet_masks}
 use Rattle.sides.specs.Corners.{corner_under, low_over, LowIs, PlaceIs}
 use Rattle.sides.proofs.FacetMasks.{masks_are}
 
@@ -59,15 +59,14 @@ pivot_order c o (suc i) = go (eqb (suc i) (length o))
 pub place_is :
     (n : ℕ) (corner : Vertex) (row out : ℕ) (r : HeldPlace) → InTable n row → out ≤ n
     → LowIs corner (order_at n row) out r.low
-    → r.mask1 ≡ facet_mask n row out 1 → r.mask2 ≡ facet_mask n row out 2 → r.mask3 ≡ facet_mask n row out 3
-    → r.side ≡ side_at n row out
+    → r.masks ≡ facet_masks n row out → r.side ≡ side_at n row out
     → PlaceIs n corner row out (place_at (vertex_as n corner) (order_at n row) out) r
 unfolding place_as facet_as masks_as masks_at side_at
-place_is n corner row out r h l e e1 e2 e3 s =
+place_is n corner row out r h l e m s =
     record {
       is =
           ap₂ (λ v ms. placed v ms r.side) (e.is n)
-          (ap₂ (λ m ms. take (n - 1) (m ∷ ms)) e1 (ap₂ (λ m k. m ∷ k ∷ []) e2 e3) ∙ sym (masks_are n row out h l))
+          (ap (take (n - 1)) m ∙ sym (masks_are n row out h l))
           ∙ ap (placed (low_over (vertex_as n corner) (order_at n row) out) (masks_at n row out)) s
           ∙ sym (place_anywhere (vertex_as n corner) (order_at n row) out);
       low = e;

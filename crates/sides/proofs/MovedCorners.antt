@@ -5,8 +5,8 @@ use mathlib.Core.Bool.{Bool, true, false}
 use mathlib.Core.List.{List, [], ◌∷◌}
 use native.Mathlib.Omega.{arith}
 use native.Mathlib.Nat.{not-suc-le-zero}
-use lib.IntN.{ℤ}
-use lib.ListN.{get_or, drop}
+use lib.ListN.{length, get_or, drop}
+use Rattle.std.proofs.lemmas.List.{take_all}
 use lib.Seq.{get_or-take, get_or-drop}
 use lib.Dec.{ltb}
 use borrow.Author.Tests.{ltb-true, ltb-false}
@@ -16,7 +16,7 @@ use Rattle.exact.specs.Size.{Size}
 use Rattle.curves.specs.Grid.{up, plus, vertices, absent, distinct, masks_from}
 use Rattle.curves.specs.Grid as Grid
 use Rattle.curves.proofs.Vertices.{plus_zero, vertices_masks}
-use Rattle.places.specs.declared.Vertex.{Vertex}
+use Rattle.paper.specs.declared.Vertex.{Vertex}
 use Rattle.places.specs.Held.{vertex_as, VertexSize}
 use Rattle.lattice.specs.Moves.{Shifted, Lowered}
 use Rattle.lattice.proofs.Moves.{vertex_wider}
@@ -27,20 +27,10 @@ use Rattle.sides.proofs.Anywhere.{low_corner, corner_low}
 
 -- ---- sizes
 
-abbrev Sized : ℕ → List ℤ → Type 0
-Sized m l = (k : ℕ) → Size m (get_or l k 0ℤ)
-
-vertex_sized : {m : ℕ} {v : Vertex} → VertexSize m v → Sized m (vertex_as 4 v)
+-- with four coordinates, all of them count in dimension 4
+whole : {m : ℕ} {v : Vertex} → VertexSize m v → vertex_as 4 v ≡ v.coordinates
 unfolding vertex_as
-vertex_sized s zero = s.x
-vertex_sized s (suc zero) = s.y
-vertex_sized s (suc (suc zero)) = s.z
-vertex_sized s (suc (suc (suc zero))) = s.w
-vertex_sized s (suc (suc (suc (suc k)))) = record { size = omega arith }
-
-sized_vertex : {m : ℕ} {v : Vertex} → Sized m (vertex_as 4 v) → VertexSize m v
-unfolding vertex_as
-sized_vertex h = record { x = h 0; y = h 1; z = h 2; w = h 3 }
+whole {m} {v} s = take_all 4 v.coordinates (omega (arith, s.count))
 
 -- ---- corner and lowest vertex
 
@@ -108,20 +98,26 @@ module _ (n row : ℕ) (h : InTable n row) (v : Vertex) (i : ℕ) (r : Vertex) w
   pub low_rest : LowIs v (order_at n row) i r → drop n (vertex_as 4 r) ≡ drop n (vertex_as 4 v)
   low_rest c = ap (drop n) (c.is 4) ∙ drop_low n (vertex_as 4 v) (order_at n row) i first_under
 
-pub first_coordinates : (n : ℕ) (r : Vertex) (k : ℕ) → k < n → get_or (vertex_as n r) k 0ℤ ≡ get_or (vertex_as 4 r) k 0ℤ
+pub first_coordinates : (n : ℕ) (r : Vertex) (k : ℕ) → k < n → get_or (vertex_as n r) k 0ℤ ≡ get_or r.coordinates k 0ℤ
 unfolding vertex_as
-first_coordinates n r k l = get_or-take n (vertex_as 4 r) k 0ℤ l
+first_coordinates n r k l = get_or-take n r.coordinates k 0ℤ l
 
--- a vertex is at most m in size if its first n coordinates are and the others are those of such a vertex
+-- a vertex of four coordinates is at most m in size if its first n coordinates are and the others are those of such a vertex
 pub size_parts :
-    (n m : ℕ) (v r : Vertex) → drop n (vertex_as 4 r) ≡ drop n (vertex_as 4 v) → VertexSize m v
+    (n m : ℕ) (v r : Vertex) → length r.coordinates ≡ 4 → drop n (vertex_as 4 r) ≡ drop n (vertex_as 4 v) → VertexSize m v
     → ((k : ℕ) → k < n → Size m (get_or (vertex_as n r) k 0ℤ)) → VertexSize m r
-size_parts n m v r e s h = sized_vertex (λ k. go k (ltb k n) refl)
+unfolding vertex_as
+size_parts n m v r c e s h = record { count = c; each = λ k. go k (ltb k n) refl }
   where
-    go : (k : ℕ) (t : Bool) → ltb k n ≡ t → Size m (get_or (vertex_as 4 r) k 0ℤ)
+    same : drop n v.coordinates ≡ drop n r.coordinates
+    same =
+        ap (drop n) (sym (whole s)) ∙ sym e ∙ ap (drop n) (take_all 4 r.coordinates (omega (arith, c)))
+
+    go : (k : ℕ) (t : Bool) → ltb k n ≡ t → Size m (get_or r.coordinates k 0ℤ)
     go k true q = subst (Size m) (first_coordinates n r k (ltb-true k n q)) (h k (ltb-true k n q))
     go k false q =
         let behind : n + (k - n) ≡ k = omega (arith, ltb-false k n q) in
         rw behind at
-        (subst (Size m) (sym (get_or-drop n (vertex_as 4 v) (k - n) 0ℤ) ∙ ap (λ l. get_or l (k - n) 0ℤ) (sym e) ∙ get_or-drop n (vertex_as 4 r) (k - n) 0ℤ)
-        (vertex_sized s (n + (k - n))))
+        (subst (Size m)
+        (sym (get_or-drop n v.coordinates (k - n) 0ℤ) ∙ ap (λ l. get_or l (k - n) 0ℤ) same ∙ get_or-drop n r.coordinates (k - n) 0ℤ)
+        (s.each (n + (k - n))))

@@ -2,8 +2,8 @@
 use Rattle.std.specs.Prelude.{ℕ, zero, suc, ◌+◌, ◌≡◌, List, [], ◌∷◌}
 use Rattle.curves.specs.Grid.{Place, up, down}
 use Rattle.curves.specs.Grid as Grid
-use Rattle.places.specs.declared.Vertex.{Vertex}
-use Rattle.places.specs.declared.HeldPlace.{HeldPlace}
+use Rattle.paper.specs.declared.Vertex.{Vertex}
+use Rattle.paper.specs.declared.HeldPlace.{HeldPlace}
 use Rattle.places.specs.Held.{vertex_as, place_as, VertexSize}
 use Rattle.table.specs.Table.{order_at}
 

@@ -1,29 +1,16 @@
 // The place of a simplex without one vertex, with any corner, from the masks of its row.
 
-ghost use Rattle.std.specs.Prelude.{◌≡◌, ℕ, ◌-◌, ◌≤◌, ◌<◌};
+ghost use Rattle.std.specs.Prelude.{◌≡◌, ℕ, ◌≤◌, ◌<◌};
 ghost use Rattle.curves.specs.Grid.{place_at};
-ghost use Rattle.exact.specs.Minors.{skip};
 ghost use Rattle.places.specs.Held.{vertex_as, VertexSize};
-ghost use Rattle.table.specs.Table.{InTable, MasksAre, order_at, digit_at};
+ghost use Rattle.table.specs.Table.{InTable, MasksAre, order_at};
 ghost use Rattle.sides.specs.Facets.{side_at};
 ghost use Rattle.lattice.specs.Moves.{move_limit};
 ghost use Rattle.sides.specs.Corners.{PlaceIs};
 
+use crate::facet::masks_from;
 use bits::index::skip;
-use places::{HeldPlace, Vertex};
-
-// Mask i of the facet without vertex `out`, from the masks of a row's vertices and that of the facet's lowest vertex. Behind the last
-// vertex the digit is 0, and so is the difference then.
-fn mask_from(masks: u16, base: u64, out: usize, i: usize) -> u64
-    requires { i < 4 }
-    ensures { result ≡ digit_at masks (skip out i) - base }
-{
-    let mask = table::digit(masks, skip(out, i));
-    if mask < base {
-        return 0;
-    }
-    mask - base
-}
+use paper::{HeldPlace, Vertex};
 
 // The side of the facet without vertex `out`, from the masks of a row's vertices. Flat: the vertex left out is the lowest (1) or the
 // highest (0). Bent: the lower of the axes before and behind it comes first (0) or last (1). Masks of one axis compare as the axes do,
@@ -33,18 +20,15 @@ fn side_from(n: usize, masks: u16, out: usize) -> u64
     ensures { (result < 2) × ((row : ℕ) → InTable n row → MasksAre n row masks → result ≡ side_at n row out) }
 {
     if out == 0 {
-        return 1;
+        1
+    } else if out == n {
+        0
+    } else {
+        let below = table::digit(masks, out - 1);
+        let at = table::digit(masks, out);
+        let above = table::digit(masks, out + 1);
+        u64::from(below + above <= at + at)
     }
-    if out == n {
-        return 0;
-    }
-    let below = table::digit(masks, out - 1);
-    let at = table::digit(masks, out);
-    let above = table::digit(masks, out + 1);
-    if at + at < below + above {
-        return 0;
-    }
-    1
 }
 
 // The place whose side is the simplex with a corner and the order of the row that has these masks, and whose facet leaves out vertex `out`.
@@ -55,9 +39,7 @@ pub fn place_at(n: usize, corner: Vertex, masks: u16, out: usize) -> HeldPlace
     let base = table::digit(masks, skip(out, 0));
     HeldPlace {
         low: lattice::shifted(corner, base),
-        mask1: mask_from(masks, base, out, 1),
-        mask2: mask_from(masks, base, out, 2),
-        mask3: mask_from(masks, base, out, 3),
+        masks: masks_from(masks, base, out),
         side: side_from(n, masks, out),
     }
 }

@@ -1,15 +1,14 @@
 -- The search of the table is right and never in vain: what matches is the simplex on the place's side (`found`), and for a well-formed
 -- place some row and vertex match (`some_match`), since every order is a row.
 use Prim.Native.Nat.{ℕ, suc, ◌-◌, ◌≤◌, ◌<◌}
-use mathlib.Core.Path.{◌≡◌, refl, sym, ap, ap₂, ◌∙◌}
-use mathlib.Core.Bool.{Bool, true, false, ◌&&◌, ◌||◌, false≢true}
-use mathlib.Core.Bool as Booleans
+use mathlib.Core.Path.{◌≡◌, sym, ap, ap₂, ◌∙◌}
+use mathlib.Core.Bool.{Bool, true, false, ◌&&◌, false≢true}
 use mathlib.Core.List.Memᴰ
 use mathlib.Core.List.{List, [], ◌∷◌}
 use mathlib.Core.Logic.{⊎_elim}
 use native.Mathlib.Omega.{arith}
 use lib.ListN.{length, get_or, take}
-use lib.Dec.{eqb, leb}
+use lib.Dec.{eqb}
 use borrow.Author.Tests.{eqb-true, eq-eqb}
 use Rattle.exact.proofs.AndTests.{and_left, and_right, and-true}
 use Rattle.curves.specs.Grid.{Place, Incidence, place_at, place_of, place_ok, incidence, same_masks, orders}
@@ -20,56 +19,27 @@ use Rattle.curves.proofs.IncidenceOf.{Valid, incidence_ok, place_incidence}
 use Rattle.curves.proofs.Orders.{orders_complete}
 use Rattle.paper.specs.Limits.{dimension_ok}
 use Rattle.paper.proofs.Tests.{dimension_range}
-use Rattle.bits.specs.Axes.{Axes}
-use Rattle.bits.proofs.EachDimension.{each_axes}
-use Rattle.places.specs.declared.HeldPlace.{HeldPlace}
+use Rattle.paper.specs.declared.HeldPlace.{HeldPlace}
+use lib.Pointwise.{pointwise}
+use Rattle.places.proofs.SameNumbers.{masks_compared}
 use Rattle.places.specs.Held.{masks_as, facet_as, place_as}
 use Rattle.table.specs.Table.{order_at, InTable}
-use Rattle.sides.specs.Facets.{masks_at, side_at, facet_mask}
+use Rattle.sides.specs.Facets.{masks_at, side_at, facet_masks}
 use Rattle.sides.specs.Corners.{corner_under, low_over}
 use Rattle.table.proofs.TableRows.{row_order_lem}
 use Rattle.sides.proofs.FacetMasks.{masks_are}
 use Rattle.sides.proofs.Anywhere.{placed, place_anywhere, low_corner}
-use Rattle.simplices.specs.Search.{same_mask, matches, Found}
+use Rattle.simplices.specs.Search.{matches, Found}
 
--- ---- the masks that count
+-- ---- the masks, and then the side
 
--- the first n − 1 of three pairs of masks compared
-taken_compared :
-    (n : ℕ) → Axes n → (a b c x y z : ℕ)
-    → same_masks (take (n - 1) (a ∷ b ∷ c ∷ [])) (take (n - 1) (x ∷ y ∷ z ∷ []))
-    ≡ ((leb n 1 || eqb a x) && ((leb n 2 || eqb b y) && ((leb n 3 || eqb c z) && true)))
-unfolding same_masks
-taken_compared n h a b c x y z =
-    each_axes
-    (λ n.
-    same_masks (take (n - 1) (a ∷ b ∷ c ∷ [])) (take (n - 1) (x ∷ y ∷ z ∷ []))
-    ≡ ((leb n 1 || eqb a x) && ((leb n 2 || eqb b y) && ((leb n 3 || eqb c z) && true))))
-    refl refl refl n h
+-- the masks that count, compared by the library
+pub masks_decide : {n row out : ℕ} (p : HeldPlace) → InTable n row → out ≤ n → {masks : List ℕ} → masks ≡ facet_masks n row out
+    → pointwise eqb (take (n - 1) masks) (masks_as n p) ≡ same_masks (masks_at n row out) (masks_as n p)
+masks_decide {n} {row} {out} p h l {masks} e =
+    masks_compared (take (n - 1) masks) (masks_as n p)
+    ∙ ap (λ ms. same_masks ms (masks_as n p)) (ap (take (n - 1)) e ∙ sym (masks_are n row out h l))
 
--- what each answer of the comparison says
-module _ {n row out : ℕ} (pre : InTable n row × (out ≤ n)) (p : HeldPlace) where
-  masks_compared :
-      same_masks (masks_at n row out) (masks_as n p)
-      ≡ (same_mask n row out 1 p.mask1 && (same_mask n row out 2 p.mask2 && (same_mask n row out 3 p.mask3 && true)))
-  unfolding masks_as same_mask
-  masks_compared =
-      ap (λ ms. same_masks ms (masks_as n p)) (masks_are n row out pre.0 pre.1)
-      ∙ taken_compared n pre.0.axes (facet_mask n row out 1) (facet_mask n row out 2) (facet_mask n row out 3) p.mask1 p.mask2 p.mask3
-
-  pub first_differs : same_mask n row out 1 p.mask1 ≡ false → false ≡ same_masks (masks_at n row out) (masks_as n p)
-  first_differs d = sym (masks_compared ∙ rw d)
-
-  module _ (first : same_mask n row out 1 p.mask1 ≡ true) where
-    pub second_differs : same_mask n row out 2 p.mask2 ≡ false → false ≡ same_masks (masks_at n row out) (masks_as n p)
-    second_differs d = sym (masks_compared ∙ rw (first, d))
-
-    pub third_decides :
-        same_mask n row out 2 p.mask2 ≡ true → {t : Bool} → t ≡ same_mask n row out 3 p.mask3
-        → t ≡ same_masks (masks_at n row out) (masks_as n p)
-    third_decides second is-third = is-third ∙ sym (masks_compared ∙ rw (first, second) (Booleans.and-true (same_mask n row out 3 p.mask3)))
-
--- the masks first, then the side
 module _
     (n row out : ℕ) (p : HeldPlace) {same : Bool} (is_same : same ≡ same_masks (masks_at n row out) (masks_as n p)) where
   pub matches_by_side : same ≡ true → {s : ℕ} → s ≡ side_at n row out → eqb s p.side ≡ matches n row out (place_as n p)

@@ -1,22 +1,18 @@
 -- What the search of the table finds: the row and the vertex left out of the simplex on a place's side.
-use Rattle.std.specs.Prelude.{ℕ, ◌≤◌, ◌<◌, ◌≡◌, Bool, true, false, ◌&&◌, ◌||◌, eqb, leb}
+use Rattle.std.specs.Prelude.{ℕ, ◌≤◌, ◌≡◌, Bool, true, false, ◌&&◌, Option, Some, None, eqb}
 use Rattle.curves.specs.Grid.{Place, same_masks, incidence}
 use Rattle.table.specs.Table.{order_at, InTable}
-use Rattle.sides.specs.Facets.{masks_at, side_at, facet_mask}
+use Rattle.sides.specs.Facets.{masks_at, side_at}
 use Rattle.sides.specs.Corners.{corner_under}
-
--- mask i of the facet without vertex `out` is m, or the facet has no such mask
-unfoldable pub same_mask : ℕ → ℕ → ℕ → ℕ → ℕ → Bool
-same_mask n row out i m = leb n i || eqb (facet_mask n row out i) m
 
 -- the facet without vertex `out` has the place's masks and side
 unfoldable pub matches : ℕ → ℕ → ℕ → Place → Bool
 matches n row out p = same_masks (masks_at n row out) p.facet.masks && eqb (side_at n row out) p.side
 
--- r is a vertex whose facet matches, or past the last if there is none in the row
-pub record FoundOut (n row : ℕ) (p : Place) (r : ℕ) : Type 0 where
-  pub found : r ≤ n → matches n row r p ≡ true
-  pub none : n < r → (k : ℕ) → k ≤ n → matches n row k p ≡ false
+-- r is a vertex whose facet matches, or none if there is none in the row
+pub record FoundOut (n row : ℕ) (p : Place) (r : Option ℕ) : Type 0 where
+  pub found : (out : ℕ) → r ≡ Some out → (out ≤ n) × (matches n row out p ≡ true)
+  pub none : r ≡ None → (k : ℕ) → k ≤ n → matches n row k p ≡ false
 
 -- the simplex on the place's side has the row's order, and the facet leaves out vertex `out`
 pub record Found (n : ℕ) (p : Place) (row out : ℕ) : Type 0 where

@@ -7,7 +7,7 @@ ghost use Rattle.table.specs.Table.{InTable, MasksAre, order_at};
 ghost use Rattle.lattice.specs.Moves.{move_limit};
 ghost use Rattle.sides.specs.Corners.{CornerIs, PlaceIs};
 
-use places::{HeldPlace, Vertex};
+use paper::{HeldPlace, Vertex};
 use sides::place;
 
 // The corner of the simplex with the order of the row that has these masks, whose facet without vertex `out` is that of the place. The facet's
@@ -16,11 +16,11 @@ pub fn corner_of(p: HeldPlace, masks: u16, out: usize) -> Vertex
     requires { VertexSize move_limit p.low }
     ensures { (n row : ℕ) → MasksAre n row masks → CornerIs p.low (order_at n row) out result }
 {
-    let low = p.low;
     if out == 0 {
-        return lattice::lowered(low, table::digit(masks, 1));
+        lattice::lowered(p.low, table::digit(masks, 1))
+    } else {
+        p.low
     }
-    low
 }
 
 // The place on the other side of the facet without vertex `out`.
@@ -28,7 +28,9 @@ pub fn next(n: usize, corner: Vertex, masks: u16, out: usize) -> HeldPlace
     requires { (n ≤ 4) × ((out ≤ n) × (VertexSize move_limit corner)) }
     ensures { (row : ℕ) → InTable n row → MasksAre n row masks → PlaceIs n corner row out (turn (place_at (vertex_as n corner) (order_at n row) out)) result }
 {
-    let mut p = place::place_at(n, corner, masks, out);
-    p.side = 1 - p.side;
-    p
+    let p = place::place_at(n, corner, masks, out);
+    HeldPlace {
+        side: 1 - p.side,
+        ..p
+    }
 }

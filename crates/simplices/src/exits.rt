@@ -9,23 +9,18 @@ pub fn is_other(n: usize, cells: &[i64; 15], out: usize, q: usize) -> bool
     requires { (Cells n cells.now) × (q ≤ n) }
     ensures { result ≡ (not (eqb q out) && crossed n (facet_columns n cells.now q)) }
 {
-    if q == out {
-        return false;
-    }
-    facets::crossed(n, cells, q)
+    q != out && facets::crossed(n, cells, q)
 }
 
-// The exit for the facet without vertex `out`; n + 1 if no other facet is crossed.
+// The exit for the facet without vertex `out`; n + 1 if no other facet is crossed, as the definition has it, so no `Option`.
 pub fn exit(n: usize, cells: &[i64; 15], out: usize) -> usize
     requires { (Cells n cells.now) × (out ≤ n) }
     ensures { result ≡ exit n (simplex_columns n cells.now) out }
 {
-    let mut q: usize = 0;
-    while q <= n {
+    for q in 0..=n {
         if is_other(n, cells, out, q) {
             return q;
         }
-        q += 1;
     }
-    q
+    n + 1
 }

@@ -6,24 +6,23 @@ use lib.IntN.{ℤ}
 use Rattle.curves.specs.Joined.{Traceable}
 use Rattle.paper.specs.Job.{dimension, decode_place}
 use Rattle.paper.specs.Values.{field_of}
+use Rattle.paper.specs.Operations.{point_refusal}
+use Rattle.paper.specs.declared.HeldPlace.{HeldPlace}
 use Rattle.paper.proofs.PointTakes.{point_traceable}
 use Rattle.places.specs.Held.{place_as}
 use Rattle.job.specs.OpenJob.{JobOf}
-use Rattle.located.specs.declared.JobPlace.{JobPlace}
-use Rattle.located.specs.Located.{Crosses}
+use Rattle.located.specs.Located.{Finds}
 use Rattle.step.specs.Held.{held_limit, Held}
 
-module _ {n : ℕ} {s p : List ℕ} {r : JobPlace} {cells : List ℤ} (j : JobOf n s) (c : Crosses n s p r cells) (none : r.refusal ≡ 0) where
-  pub found_place : place_as n r.place ≡ decode_place (dimension s) p
-  found_place = (c.finds none).place.is ∙ ap (λ k. decode_place k p) j.dimension
+module _ {n : ℕ} {s p : List ℕ} {q : HeldPlace} {cells : List ℤ} (j : JobOf n s) (f : Finds n s p q cells) where
+  pub found_place : place_as n q ≡ decode_place (dimension s) p
+  found_place = f.place.is ∙ ap (λ k. decode_place k p) j.dimension
 
-  pub found_held : Held s n r.place
+  pub found_held : point_refusal s p ≡ 0 → Held s n q
   unfolding held_limit
-  found_held =
+  found_held none =
       record {
         job = j;
-        traceable =
-            subst₂ (λ k q. Traceable k (field_of s) q) (sym j.dimension) (sym found_place)
-            (point_traceable s p (sym c.number ∙ none));
-        size = (c.finds none).place.size;
+        traceable = subst₂ (λ k x. Traceable k (field_of s) x) (sym j.dimension) (sym found_place) (point_traceable s p none);
+        size = f.place.size;
       }

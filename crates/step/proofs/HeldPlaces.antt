@@ -5,7 +5,7 @@ use mathlib.Core.Path.{◌≡◌, sym, subst, ◌∙◌}
 use mathlib.Core.Bool.{true}
 use mathlib.Core.List.{List}
 use lib.IntN.{ℤ}
-use lib.ListN.{drop}
+use lib.ListN.{length, drop}
 use lib.Dec.{lit≤}
 use Rattle.exact.specs.Size.{Size}
 use Rattle.curves.specs.Grid.{place_ok}
@@ -19,14 +19,14 @@ use Rattle.paper.proofs.StartTraceable.{traceable_short}
 use Rattle.bits.specs.Axes.{Axes}
 use Rattle.places.specs.Held.{vertex_as, facet_as, place_as, VertexSize}
 use Rattle.places.specs.PlaceBytes.{FitsBytes}
-use Rattle.places.specs.declared.Vertex.{Vertex}
-use Rattle.places.specs.declared.HeldPlace.{HeldPlace}
+use Rattle.paper.specs.declared.Vertex.{Vertex}
+use Rattle.paper.specs.declared.HeldPlace.{HeldPlace}
 use Rattle.places.proofs.WordBytes.{short_size}
 use Rattle.places.proofs.PlaceStored.{coordinate_short}
 use Rattle.job.specs.OpenJob.{JobOf}
 use Rattle.lattice.specs.Moves.{move_limit}
 use Rattle.lattice.proofs.Moves.{vertex_wider}
-use Rattle.job.proofs.OpenJob.{job_axes}
+use Rattle.job.proofs.Opened.{job_axes}
 use Rattle.table.specs.Table.{InTable, order_at}
 use Rattle.sides.specs.Corners.{CornerIs, LowIs}
 use Rattle.sides.proofs.MovedCorners.{first_coordinates, corner_rest, low_rest, size_parts}
@@ -53,12 +53,12 @@ unfolding held_limit
 held_size x h = record { size = short_size x h }
 
 -- the coordinates are within the limit if those that count fit 16 bits and the others are those of a vertex within it
-low_sized : (n : ℕ) (v u : Vertex) → Axes n → every short (vertex_as n u) ≡ true → drop n (vertex_as 4 u) ≡ drop n (vertex_as 4 v)
+low_sized : (n : ℕ) (v u : Vertex) → Axes n → length u.coordinates ≡ 4 → every short (vertex_as n u) ≡ true → drop n (vertex_as 4 u) ≡ drop n (vertex_as 4 v)
     → VertexSize held_limit v → VertexSize held_limit u
 unfolding vertex_as
-low_sized n v u a h e s =
-    size_parts n held_limit v u e s
-    (λ k l. subst (Size held_limit) (sym (first_coordinates n u k l)) (held_size _ (coordinate_short n u h k l (omega (arith, a.high)))))
+low_sized n v u a four h e s =
+    size_parts n held_limit v u four e s
+    (λ k l. subst (Size held_limit) (sym (first_coordinates n u k l)) (held_size _ (coordinate_short n u h k l)))
 
 module _ {s : List ℕ} {n : ℕ} {p : HeldPlace} (h : Held s n p) where
   pub low_moves : VertexSize move_limit p.low
@@ -78,6 +78,6 @@ module _ {s : List ℕ} {n : ℕ} {p : HeldPlace} (h : Held s n p) where
     job = h.job;
     traceable = y;
     size =
-        low_sized n p.low q.low (job_axes h.job) (short_low q h.job y)
+        low_sized n p.low q.low (job_axes h.job) (l.size _ (c.size _ h.size)).count (short_low q h.job y)
         (low_rest n row t corner way q.low l ∙ corner_rest n row t p.low out corner c) h.size;
   }

@@ -6,11 +6,12 @@ use mathlib.Core.Path.{◌≡◌, refl, sym, ap, subst, ◌∙◌}
 use mathlib.Core.Bool.{Bool, true, false, cond}
 use mathlib.Core.List.{List}
 use lib.IntN.{ℤ}
+use Rattle.std.proofs.Common.{Err}
 use Rattle.exact.specs.Crossed.{exit}
 use Rattle.curves.specs.Grid.{Place, Incidence, vertices, incidence, place_at, place_of, turn}
 use Rattle.curves.specs.Grid as Grid
 use Rattle.curves.specs.Walk.{stop, go}
-use Rattle.curves.specs.Step.{edge, limit, every, columns, crossed_facet, onward, step_through, step}
+use Rattle.curves.specs.Step.{every, columns, crossed_facet, onward, step_through, step}
 use Rattle.curves.specs.Joined.{Traceable}
 use Rattle.curves.proofs.IncidenceOf.{Valid, incidence_ok, place_incidence}
 use Rattle.curves.proofs.GridStep.{accepted, crossed_columns}
@@ -18,12 +19,15 @@ use Rattle.curves.proofs.GridWalk.{other_only, step_traceable}
 use Rattle.paper.specs.Job.{dimension}
 use Rattle.paper.specs.Values.{field_of}
 use Rattle.paper.specs.Operations.{step_in}
+use Rattle.paper.specs.Answers.{stop_as}
+use Rattle.paper.specs.declared.Stop.{Stop}
+use Rattle.paper.specs.declared.Stop.TheVariants.{Edge, Limit}
 use Rattle.places.specs.Held.{vertex_as, facet_as, place_as}
-use Rattle.places.specs.declared.Vertex.{Vertex}
-use Rattle.places.specs.declared.HeldPlace.{HeldPlace}
+use Rattle.paper.specs.declared.Vertex.{Vertex}
+use Rattle.paper.specs.declared.HeldPlace.{HeldPlace}
 use Rattle.determinants.specs.Cells.{simplex_columns}
-use Rattle.columns.specs.Found.{stop_number, SimplexFound}
-use Rattle.job.proofs.OpenJob.{job_axes}
+use Rattle.columns.specs.Found.{SimplexFound}
+use Rattle.job.proofs.Opened.{job_axes}
 use Rattle.table.specs.Table.{order_at}
 use Rattle.sides.specs.Corners.{CornerIs, PlaceIs}
 use Rattle.simplices.specs.Search.{Found}
@@ -31,37 +35,9 @@ use Rattle.step.specs.Held.{Held}
 use Rattle.step.specs.Ahead.{Leads}
 use Rattle.step.proofs.HeldPlaces.{held_form, next_held}
 
--- ---- what the number of a stop says
-
-abbrev stop_of : Bool → Bool → ℕ
-stop_of a b = cond a (cond b 0 2) 1
-
-edge_is : {A : Type 0} (a b : Bool) (x y z : A) → stop_of a b ≡ 1 → cond a (cond b x y) z ≡ z
-edge_is true true x y z e = absurd (omega arith)
-edge_is true false x y z e = absurd (omega arith)
-edge_is false b x y z e = refl
-
-limit_is : {A : Type 0} (a b : Bool) (x y z : A) → stop_of a b ≡ 2 → cond a (cond b x y) z ≡ y
-limit_is true true x y z e = absurd (omega arith)
-limit_is true false x y z e = refl
-limit_is false b x y z e = absurd (omega arith)
-
-none_is : {A : Type 0} (a b : Bool) (x y z : A) → stop_of a b ≡ 0 → cond a (cond b x y) z ≡ x
-none_is true true x y z e = refl
-none_is true false x y z e = absurd (omega arith)
-none_is false b x y z e = absurd (omega arith)
-
-no_other : (a b : Bool) → (stop_of a b ≡ 1 → ⊥) → (stop_of a b ≡ 2 → ⊥) → stop_of a b ≡ 0
-no_other true true h k = refl
-no_other true false h k = absurd (k refl)
-no_other false b h k = absurd (h refl)
-
-pub no_stop : {s : List ℕ} {n : ℕ} {vs : List Grid.Vertex} {number : ℕ} {cells : List ℤ} → SimplexFound s n vs number cells
-    → (number ≡ 1 → ⊥) → (number ≡ 2 → ⊥) → number ≡ 0
-unfolding stop_number
-no_stop {s} {vs} v h k =
-    v.number
-    ∙ no_other (every (field_of s).in_box vs) (every (field_of s).readable vs) (λ e. h (v.number ∙ e)) (λ e. k (v.number ∙ e))
+-- both tests hold
+pub cond_both : {A : Type 0} (x y z : A) {a b : Bool} → a ≡ true → b ≡ true → cond a (cond b x y) z ≡ x
+cond_both x y z h k = rw (h, k)
 
 -- ---- the simplex on a held place's side
 
@@ -88,61 +64,51 @@ module _
     unfolding step
     step_is = ap (λ (t : Incidence). step_through n (field_of s) t (vertices t.corner t.order)) simplex_is
 
-    boxed : Bool
-    boxed = every (field_of s).in_box corners
+    -- what stops the step
+    pub stops : (w : Stop) {cells : List ℤ} → SimplexFound s n corners {T = Unit {0}} (Err w) cells → step_in s (place_as n p) ≡ stop (stop_as w)
+    unfolding step_through stop_as
+    stops Edge v = job_step ∙ step_is ∙ rw v.found
+    stops Limit v = job_step ∙ step_is ∙ rw (v.found.0, v.found.1)
 
-    read : Bool
-    read = every (field_of s).readable corners
+    -- nothing stops it, and the cells hold the simplex's columns
+    module _ (cells : List ℤ)
+        (v : (every (field_of s).in_box corners ≡ true) × ((every (field_of s).readable corners ≡ true) × (simplex_columns n cells ≡ columns (field_of s) corners)))
+        {way : ℕ} (w : way ≡ exit n (simplex_columns n cells) out) where
+      way_is : way ≡ exit n (columns (field_of s) corners) out
+      way_is = w ∙ ap (λ us. exit n us out) v.1.1
 
-    module _ {number : ℕ} {cells : List ℤ} (v : SimplexFound s n corners number cells) where
-      pub at_edge : number ≡ 1 → step_in s (place_as n p) ≡ stop edge
-      unfolding step_through stop_number boxed read
-      at_edge e =
-          job_step ∙ step_is
-          ∙ edge_is boxed read (go (onward n (field_of s) simplex)) (stop limit) (stop edge) (sym v.number ∙ e)
+      valid : Valid n simplex
+      valid = subst (Valid n) simplex_is (incidence_ok n (place_as n p) (held_form h))
 
-      pub at_limit : number ≡ 2 → step_in s (place_as n p) ≡ stop limit
-      unfolding step_through stop_number boxed read
-      at_limit e =
-          job_step ∙ step_is
-          ∙ limit_is boxed read (go (onward n (field_of s) simplex)) (stop limit) (stop edge) (sym v.number ∙ e)
+      large : 0 < n
+      large = omega (arith, (job_axes h.job).low)
 
-      module _ (none : number ≡ 0) {way : ℕ} (w : way ≡ exit n (simplex_columns n cells) out) where
-        way_is : way ≡ exit n (columns (field_of s) corners) out
-        way_is = w ∙ ap (λ us. exit n us out) (v.columns none)
+      is_place : place_of simplex ≡ place_as n p
+      is_place = ap place_of (sym simplex_is) ∙ place_incidence n (place_as n p) (held_form h)
 
-        valid : Valid n simplex
-        valid = subst (Valid n) simplex_is (incidence_ok n (place_as n p) (held_form h))
+      pub way_inside : way ≤ n
+      way_inside =
+          subst (λ k. k ≤ n) (sym way_is)
+          (other_only n (field_of s) simplex large valid
+          (sym (crossed_columns n (field_of s) simplex large valid)
+          ∙ ap (λ (q : Place). crossed_facet n (field_of s) q.facet) is_place
+          ∙ (accepted n (field_of s) (place_as n p) h.traceable).crosses)).low
 
-        large : 0 < n
-        large = omega (arith, (job_axes h.job).low)
+      ahead : Place
+      ahead = turn (place_at (vertex_as n corner) (order_at n row) way)
 
-        is_place : place_of simplex ≡ place_as n p
-        is_place = ap place_of (sym simplex_is) ∙ place_incidence n (place_as n p) (held_form h)
+      step_ahead : step n (field_of s) (place_as n p) ≡ go ahead
+      unfolding step_through onward place_of ahead
+      step_ahead =
+          step_is
+          ∙ cond_both _ _ _ v.0 v.1.0
+          ∙ ap (λ k. go (turn (place_at (vertex_as n corner) (order_at n row) k))) (sym way_is)
 
-        pub way_inside : way ≤ n
-        way_inside =
-            subst (λ k. k ≤ n) (sym way_is)
-            (other_only n (field_of s) simplex large valid
-            (sym (crossed_columns n (field_of s) simplex large valid)
-            ∙ ap (λ (q : Place). crossed_facet n (field_of s) q.facet) is_place
-            ∙ (accepted n (field_of s) (place_as n p) h.traceable).crosses)).low
-
-        ahead : Place
-        ahead = turn (place_at (vertex_as n corner) (order_at n row) way)
-
-        step_ahead : step n (field_of s) (place_as n p) ≡ go ahead
-        unfolding step_through stop_number boxed read onward place_of ahead
-        step_ahead =
-            step_is
-            ∙ none_is boxed read (go (onward n (field_of s) simplex)) (stop limit) (stop edge) (sym v.number ∙ none)
-            ∙ ap (λ k. go (turn (place_at (vertex_as n corner) (order_at n row) k))) (sym way_is)
-
-        pub leads : {q : HeldPlace} → PlaceIs n corner row way (turn (place_at (vertex_as n corner) (order_at n row) way)) q → Leads s n (place_as n p) q
-        unfolding ahead
-        leads {q} e =
-            let t = step_traceable n (field_of s) large (place_as n p) h.traceable ahead step_ahead in
-            record {
-              is = job_step ∙ step_ahead ∙ ap go (sym e.is);
-              held = next_held h f.table c e.low (subst (λ q. Traceable n (field_of s) q) (sym e.is) t);
-            }
+      pub leads : {q : HeldPlace} → PlaceIs n corner row way (turn (place_at (vertex_as n corner) (order_at n row) way)) q → Leads s n (place_as n p) q
+      unfolding ahead
+      leads {q} e =
+          let t = step_traceable n (field_of s) large (place_as n p) h.traceable ahead step_ahead in
+          record {
+            is = job_step ∙ step_ahead ∙ ap go (sym e.is);
+            held = next_held h f.table c e.low (subst (λ q. Traceable n (field_of s) q) (sym e.is) t);
+          }

@@ -3,7 +3,7 @@ use Rattle.std.specs.Prelude.{ℕ, ◌^◌, List}
 use Rattle.curves.specs.Joined.{Traceable}
 use Rattle.paper.specs.Values.{field_of}
 use Rattle.places.specs.Held.{place_as, VertexSize}
-use Rattle.places.specs.declared.HeldPlace.{HeldPlace}
+use Rattle.paper.specs.declared.HeldPlace.{HeldPlace}
 use Rattle.job.specs.OpenJob.{JobOf}
 
 -- the size of the coordinates: those that count fit 16 bits, the others stay what they were when the place was read

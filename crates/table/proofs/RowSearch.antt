@@ -7,7 +7,8 @@ use borrow.Author.Tests.{eq-eqb, ne_eqb}
 use Rattle.curves.specs.Grid.{orders}
 use Rattle.bits.specs.Axes.{Axes}
 use Rattle.bits.proofs.EachDimension.{each_axes}
-use Rattle.table.specs.Table.{order_at, order_word, block_size, row_from, found_row, InTable}
+use Rattle.table.proofs.TableRows.{row_inside_lem}
+use Rattle.table.specs.Table.{first_row, order_at, order_word, block_size, row_from, found_row, InTable}
 
 -- ---- one step
 
@@ -53,6 +54,9 @@ module _ (n w : ℕ) (pre : (Axes n) × (w / 4096 < n)) {s : ℕ} (is_size : s �
 
   pub block_row : (row : ℕ) → row < w / 4096 * s + s - 1 → InTable n row
   block_row row l = record { axes = pre.0; inside = omega (arith, block_inside) }
+
+  pub block_within : {first : ℕ} → first ≡ first_row n → (row : ℕ) → row < w / 4096 * s + s - 1 → first + row < 32
+  block_within e row l = row_inside_lem n row (block_row row l) e
 
   -- the search begins with the first of them
   pub search_starts : row_from n w (w / 4096 * s) (w / 4096 * s + s - 1 - w / 4096 * s) ≡ found_row n w

@@ -55,7 +55,7 @@ axis_at n row k = get_or (order_at n row) k 0
 unfoldable pub vertex_mask : List ℕ → ℕ → ℕ
 vertex_mask o k = get_or (0 ∷ masks_from 0 o) k 0
 
--- a row of the table for n axes
+-- a row of the table for n axes. Both stay numbers with this fact beside them: a struct of the two would hold n again, which the job holds already
 pub record InTable (n row : ℕ) : Type 0 where
   pub axes : Axes n
   pub inside : row < length (orders n)

@@ -5,17 +5,22 @@ use native.Mathlib.Nat.{zero-add}
 use native.Mathlib.Numerals.{unary_clauses}
 use mathlib.Core.Path.{◌≡◌, refl, sym, ap, ap₂, subst, ◌∙◌}
 use mathlib.Core.Bool.{Bool, true, false, cond}
-use mathlib.Core.List.{List, [], ◌++◌}
+use mathlib.Core.List.{List, [], ◌∷◌, ◌++◌}
 use lib.Dec.{eqb}
 use lib.ListN.{length, get_or, drop, length-append}
 use lib.Seq.{sets, sets-eq}
 use borrow.Author.Tests.{eqb-true, eqb-false}
+use lib.IntN.{ℤ}
 use Rattle.exact.specs.Int.{0ℤ}
+use Rattle.exact.proofs.AndTests.{and_left, and_right, and-true}
 use Rattle.curves.specs.Step.{every}
+use Rattle.std.specs.Prelude.{Ok, Err}
+use Rattle.paper.specs.declared.Refusal as Refusal
+use Rattle.paper.specs.Refusals.{refusal_number}
+use Rattle.formula.specs.Answers.{handed_as}
 use Rattle.formula.specs.Polynomial.{Polynomial, cell, is_zero, exponents_at, monomial_count}
 use Rattle.formula.specs.Read.{double_word_bytes, term_bytes, terms_from, term_list, zero_bytes, byte_count, handed_back}
 use Rattle.termbytes.specs.Terms.{answer_of}
-use Rattle.termbytes.proofs.Coefficients.{every_at, every_from}
 use Rattle.termbytes.proofs.TermLists.{terms_length}
 
 -- ---- zero bytes behind the terms
@@ -38,6 +43,18 @@ zeros_behind m b l =
     ∙ ap (λ x. b ++ x) (drop_zeros m (length b))
 
 -- ---- the answer
+
+module _ (t : ℤ → Bool) where
+  every_at : (p : Polynomial) → every t p ≡ true → t 0ℤ ≡ true → (i : ℕ) → t (get_or p i 0ℤ) ≡ true
+  unfolding every
+  every_at [] h e i = e
+  every_at (x ∷ p) h e zero = and_left (t x) (every t p) h
+  every_at (x ∷ p) h e (suc i) = every_at p (and_right (t x) (every t p) h) e i
+
+  every_from : (p : Polynomial) → ((i : ℕ) → i < length p → t (get_or p i 0ℤ) ≡ true) → every t p ≡ true
+  unfolding every
+  every_from [] f = refl
+  every_from (x ∷ p) f = and-true (f 0 (omega arith)) (every_from p (λ i h. f (suc i) (omega arith)))
 
 no_terms : (p : Polynomial) (k m : ℕ) → ((i : ℕ) → is_zero (get_or p i 0ℤ) ≡ true) → terms_from p k m ≡ []
 unfolding terms_from term_bytes cell
@@ -67,11 +84,11 @@ not_one p k (suc m) i h l u =
 
 zero_terms : (p : Polynomial) → every is_zero p ≡ true → term_list p ≡ []
 unfolding term_list is_zero
-zero_terms p h = no_terms p 0 monomial_count (every_at is_zero 0ℤ p h refl)
+zero_terms p h = no_terms p 0 monomial_count (every_at is_zero p h refl)
 
 terms_zero : (p : Polynomial) → length p ≡ monomial_count → length (term_list p) ≡ 0 → every is_zero p ≡ true
 unfolding term_list
-terms_zero p n h = every_from is_zero 0ℤ p (λ i l. not_one p 0 monomial_count i h (omega arith) (omega (arith, n)))
+terms_zero p n h = every_from is_zero p (λ i l. not_one p 0 monomial_count i h (omega arith) (omega (arith, n)))
 
 some_terms : (p : Polynomial) → (length (term_list p) ≡ 0 → ⊥) → every is_zero p ≡ false
 some_terms p f = go (every is_zero p) refl
@@ -84,16 +101,14 @@ list_length : (p : Polynomial) → length (term_list p) ≤ byte_count
 unfolding term_list monomial_count byte_count
 list_length p = terms_length p 0 70 (omega arith)
 
-pub answer_zero : {at : ℕ} {b : List ℕ} (p : Polynomial) → length p ≡ monomial_count → at ≡ 0 → at ≡ length (term_list p)
-    → b ≡ sets (zero_bytes byte_count) 0 (term_list p) → record { refusal = 15; count = 0; bytes = b } ≡ handed_back (answer_of p)
-unfolding answer_of handed_back
-answer_zero {at} {b} p n e f g =
-    let zero : every is_zero p ≡ true = terms_zero p n (sym f ∙ e) in
-    rw zero (ap (λ x. record { refusal = 15; count = 0; bytes = x }) (g ∙ ap (sets (zero_bytes byte_count) 0) (zero_terms p zero)))
+pub answer_zero : {at : ℕ} (p : Polynomial) → length p ≡ monomial_count → at ≡ 0 → at ≡ length (term_list p)
+    → handed_as (Err Refusal.TheVariants.Formula) ≡ handed_back (answer_of p)
+unfolding answer_of handed_as handed_back refusal_number
+answer_zero p n e f = rw (terms_zero p n (sym f ∙ e)) refl
 
 pub answer_terms : {at : ℕ} {b : List ℕ} (p : Polynomial) → (at ≡ 0 → ⊥) → at ≡ length (term_list p)
-    → b ≡ sets (zero_bytes byte_count) 0 (term_list p) → record { refusal = 0; count = at / 8; bytes = b } ≡ handed_back (answer_of p)
-unfolding answer_of handed_back
+    → b ≡ sets (zero_bytes byte_count) 0 (term_list p) → handed_as (Ok (record { count = at / 8; bytes = b })) ≡ handed_back (answer_of p)
+unfolding answer_of handed_as handed_back
 answer_terms {at} {b} p f e g =
     rw (some_terms p (λ h. f (e ∙ h)))
     (ap₂ (λ k x. record { refusal = 0; count = k / 8; bytes = x }) e (g ∙ zeros_behind byte_count (term_list p) (list_length p)))

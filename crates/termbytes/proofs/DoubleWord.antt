@@ -1,56 +1,51 @@
--- The 32 bits of a coefficient.
-use Prim.Native.Nat.{ℕ, suc, ◌-◌, ◌≤◌}
+-- The 32 bits of a coefficient, in four bytes.
+use Prim.Native.Nat.{ℕ, ◌/◌, ◌%◌, ◌<◌}
 use native.Mathlib.Omega.{arith}
-use mathlib.Core.Path.{◌≡◌, ap, ◌∙◌}
-use mathlib.Core.Bool.{true, false, true≢false}
-use lib.Dec.{lit≤}
-use lib.IntN.{ℤ, pos, negsuc, nat_abs}
-use lib.Signed.{lt_z}
-use borrow.Author.Tests.{ltb-true, eq-eqb, ne_eqb}
+use mathlib.Core.Path.{◌≡◌, refl, ap, ◌∙◌}
+use mathlib.Core.List.{List, [], ◌∷◌}
+use lib.Dec.{lit<}
+use lib.IntN.{ℤ, pos, negsuc}
+use mir.Syntax.{w32}
+use mir.Val.{SFits, of_z, to_z}
+use Rattle.std.proofs.Math.Facts.{to_z-of_z}
 use Rattle.exact.specs.Size.{Size}
-use Rattle.exact.proofs.Bits.{back, back_is}
+use Rattle.exact.proofs.SizeLaws.{size_fits}
+use Rattle.exact.proofs.Bits.{back}
 use Rattle.paper.specs.Limits.{coefficient_limit}
-use Rattle.formula.specs.Polynomial.{is_zero}
-use Rattle.formula.specs.Read.{double_word_of}
-use Rattle.bits.specs.Read.{Reads}
+use Rattle.formula.specs.Read.{double_word_of, double_word_bytes}
+use Rattle.rows.proofs.CoefficientBits.{coefficient_back, coefficient_held}
 
--- a coefficient is the number that 64 bits hold
-pub coefficient_back : (x : ℤ) → Size coefficient_limit x → back x ≡ x
+fits_word : {x : ℤ} → Size coefficient_limit x → SFits w32 x
 unfolding coefficient_limit
-coefficient_back x s = back_is s (lit≤ tt)
+fits_word s = size_fits w32 (lit< tt) s
 
-pub back_coefficient : (x : ℤ) → Size coefficient_limit x → Size coefficient_limit (back x)
-back_coefficient x s = rw (coefficient_back x s) s
+-- the cast to 32 bits loses nothing
+pub word_fits : {x : ℤ} → Size coefficient_limit x → SFits w32 (back x)
+word_fits s = fits_word (coefficient_held s)
 
--- under 0 what is missing to 4,294,967,296, from 0 on the number itself
-below : (x : ℤ) {r : ℕ} → Size coefficient_limit x → lt_z x (pos 0) ≡ true → r ≡ nat_abs x → Reads 4294967296 (double_word_of x) (4294967296 - r)
+bits_word : (x : ℤ) → Size coefficient_limit x → of_z w32 x ≡ double_word_of x
 unfolding double_word_of coefficient_limit
-below (pos a) s h e = absurd (omega (arith, ltb-true a 0 h))
-below (negsuc a) s h e = record { is = omega (arith, s.size); small = omega arith }
+bits_word (pos a) s = omega (arith, s.size)
+bits_word (negsuc a) s = omega (arith, s.size)
 
-above : (x : ℤ) {r : ℕ} → Size coefficient_limit x → lt_z x (pos 0) ≡ false → r ≡ nat_abs x → Reads 4294967296 (double_word_of x) r
+word_small : (x : ℤ) → Size coefficient_limit x → double_word_of x < 4294967296
 unfolding double_word_of coefficient_limit
-above (pos a) s h e = record { is = omega (arith, s.size); small = omega (arith, s.size) }
-above (negsuc a) s h e = absurd (true≢false h)
+word_small (pos a) s = omega arith
+word_small (negsuc a) s = omega arith
 
-module _ (x : ℤ) (s : Size coefficient_limit x) where
-  pub word_size : nat_abs (back x) ≤ 1048576
-  unfolding coefficient_limit
-  word_size = (back_coefficient x s).size
+-- read back from 64 bits and from 32
+word_is : (x : ℤ) → Size coefficient_limit x → of_z w32 (to_z w32 (of_z w32 (back x))) ≡ double_word_of x
+word_is x s = ap (λ y. of_z w32 (to_z w32 (of_z w32 y))) (coefficient_back s) ∙ ap (of_z w32) (to_z-of_z (fits_word s)) ∙ bits_word x s
 
-  pub word_below : {r : ℕ} → lt_z (back x) (pos 0) ≡ true → r ≡ nat_abs (back x) → Reads 4294967296 (double_word_of x) (4294967296 - r)
-  word_below h e = below x s (rw (coefficient_back x s) at h) (e ∙ ap nat_abs (coefficient_back x s))
+unfoldable pub four_bytes : ℕ → List ℕ
+four_bytes w = w % 256 ∷ w / 256 % 256 ∷ w / 65536 % 256 ∷ w / 16777216 % 256 ∷ []
 
-  pub word_above : {r : ℕ} → lt_z (back x) (pos 0) ≡ false → r ≡ nat_abs (back x) → Reads 4294967296 (double_word_of x) r
-  word_above h e = above x s (rw (coefficient_back x s) at h) (e ∙ ap nat_abs (coefficient_back x s))
+-- the highest byte needs no remainder
+highest : (w : ℕ) → w < 4294967296 → w / 16777216 % 256 ≡ w / 16777216
+highest w l = omega arith
 
--- the bits are 0 for a coefficient 0 only
-pub word_zero : (x : ℤ) → Size coefficient_limit x → double_word_of x ≡ 0 → is_zero x ≡ true
-unfolding double_word_of coefficient_limit is_zero
-word_zero (pos a) s e = eq-eqb a 0 (omega (arith, s.size))
-word_zero (negsuc a) s e = absurd (omega (arith, s.size))
-
-pub word_not_zero : (x : ℤ) → (double_word_of x ≡ 0 → ⊥) → is_zero x ≡ false
-unfolding double_word_of is_zero
-word_not_zero (pos a) f = ne_eqb a 0 (λ e. f (omega (arith, e)))
-word_not_zero (negsuc a) f = ne_eqb (suc a) 0 (λ e. omega (arith, e))
+pub word_bytes : (x : ℤ) {bytes : List ℕ} → Size coefficient_limit x → bytes ≡ four_bytes (of_z w32 (to_z w32 (of_z w32 (back x))))
+    → bytes ≡ double_word_bytes x
+unfolding four_bytes double_word_bytes
+word_bytes x s e =
+    e ∙ ap four_bytes (word_is x s) ∙ rw (highest (double_word_of x) (word_small x s)) refl

@@ -1,7 +1,5 @@
 -- Laws that the proofs of the functions cite, a file for each idea.
 pub mod DoubleWord
-pub mod Digits
-pub mod Coefficients
 pub mod OneTerm
 pub mod TermLists
 pub mod Answer

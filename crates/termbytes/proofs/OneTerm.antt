@@ -1,22 +1,25 @@
 -- The bytes of one term.
-use Prim.Native.Nat.{ℕ, ◌+◌, ◌/◌, ◌%◌, ◌≤◌, ◌<◌}
+use Prim.Native.Nat.{ℕ, ◌+◌, ◌-◌, ◌≤◌, ◌<◌}
 use native.Mathlib.Omega.{arith}
 use mathlib.Core.Path.{◌≡◌, refl, sym, ap, ap₂, ◌∙◌}
 use mathlib.Core.Bool.{Bool, true, false}
-use mathlib.Core.List.{List, [], ◌∷◌, ◌++◌}
+use mathlib.Core.List.{List, [], ◌++◌, append_assoc}
+use borrow.Rule.Slice.PartMut.{put_mid}
+use Rattle.std.proofs.lemmas.List.{drop-drop}
 use lib.IntN.{ℤ}
-use lib.ListN.{length}
-use lib.Seq.{sets}
+use lib.ListN.{length, take, drop, length-append}
+use lib.Seq.{sets, sets-eq, length-sets}
+use mir.Syntax.{w64}
+use mir.Val.{of_z}
 use Rattle.exact.specs.Size.{Size}
-use Rattle.exact.proofs.Bits.{back}
 use Rattle.paper.specs.Limits.{coefficient_limit}
 use Rattle.formula.specs.Polynomial.{is_zero, exponents_at, monomial_count}
-use Rattle.formula.specs.Read.{double_word_of, double_word_bytes}
+use Rattle.formula.specs.Read.{double_word_bytes}
 use Rattle.bits.proofs.Sets.{sets_append}
-use Rattle.monomials.specs.Weight.{weight}
+use Rattle.monomials.proofs.FourDigits.{Four, four}
+use Rattle.monomials.proofs.Codes.{exponents_four}
+use Rattle.rows.proofs.CoefficientBits.{bits_zero, bits_nonzero}
 use Rattle.termbytes.specs.Terms.{term_of}
-use Rattle.termbytes.proofs.DoubleWord.{coefficient_back, word_zero, word_not_zero}
-use Rattle.termbytes.proofs.Digits.{digits, code_digits}
 
 no_term : (x : ℤ) (k : ℕ) → is_zero x ≡ true → term_of x k ≡ []
 unfolding term_of
@@ -26,10 +29,19 @@ some_term : (x : ℤ) (k : ℕ) → is_zero x ≡ false → term_of x k ≡ doub
 unfolding term_of
 some_term x k h = rw h
 
+word_length : (x : ℤ) → length (double_word_bytes x) ≡ 4
+unfolding double_word_bytes
+word_length x = refl
+
+exponents_length : (k : ℕ) → k < monomial_count → length (exponents_at k) ≡ 4
+exponents_length k l = of_four (exponents_four k l)
+  where
+    of_four : {es : List ℕ} → Four 4 es → length es ≡ 4
+    of_four (four h i j k) = refl
+
 -- a term has 8 bytes
 some_length : (x : ℤ) (k : ℕ) → k < monomial_count → length (double_word_bytes x ++ exponents_at k) ≡ 8
-unfolding double_word_bytes digits
-some_length x k l = ap (λ es. length (double_word_bytes x ++ es)) (sym (code_digits k l))
+some_length x k l = omega (arith, length-append (double_word_bytes x) (exponents_at k), word_length x, exponents_length k l)
 
 pub term_length : (x : ℤ) (k : ℕ) → k < monomial_count → length (term_of x k) ≤ 8
 term_length x k l = go (is_zero x) refl
@@ -38,29 +50,31 @@ term_length x k l = go (is_zero x) refl
     go true e = omega (arith, ap length (no_term x k e))
     go false e = omega (arith, ap length (some_term x k e), some_length x k l)
 
-module _ {word : ℕ} (b : List ℕ) (at : ℕ) (x : ℤ) (k : ℕ) (s : Size coefficient_limit x) (w : word ≡ double_word_of (back x)) where
-  word_is : word ≡ double_word_of x
-  word_is = w ∙ ap double_word_of (coefficient_back x s)
+-- a part of a buffer filled
+filled : (bytes part : List ℕ) (at m : ℕ) → m ≡ length part → at + length part ≤ length bytes → put_mid at m bytes part ≡ sets bytes at part
+filled bytes part at m e l =
+    ap (λ z. take at bytes ++ (part ++ z)) (drop-drop m at bytes ∙ ap (λ k. drop k bytes) (omega (arith, e)))
+    ∙ sym (append_assoc (take at bytes) part (drop (at + length part) bytes)) ∙ sym (sets-eq part bytes at l)
 
+module _ (b : List ℕ) (at : ℕ) (x : ℤ) (k : ℕ) (s : Size coefficient_limit x) where
   -- a coefficient 0
-  pub none_put : word ≡ 0 → (at ≡ at + length (term_of x k)) × (b ≡ sets b at (term_of x k))
+  pub none_put : of_z w64 x ≡ 0 → (at ≡ at + length (term_of x k)) × (b ≡ sets b at (term_of x k))
   none_put e =
-      let none : term_of x k ≡ [] = no_term x k (word_zero x s (sym word_is ∙ e)) in
+      let none : term_of x k ≡ [] = no_term x k (bits_zero s e) in
       (omega (arith, ap length none), ap (sets b at) (sym none))
 
-  -- four bytes of its word, then four of its code
-  pub term_put : {code : ℕ} (c d : List ℕ) (w₀ w₁ w₂ w₃ e₀ e₁ e₂ e₃ : ℕ) → k < monomial_count → (word ≡ 0 → ⊥) → code ≡ weight (exponents_at k)
-      → c ≡ sets b at (w₀ ∷ w₁ ∷ w₂ ∷ w₃ ∷ []) → d ≡ sets c (at + 4) (e₀ ∷ e₁ ∷ e₂ ∷ e₃ ∷ [])
-      → w₀ ≡ word % 256 → w₁ ≡ word / 256 % 256 → w₂ ≡ word / 65536 % 256 → w₃ ≡ word / 16777216
-      → e₀ ≡ code / 4096 % 16 → e₁ ≡ code / 256 % 16 → e₂ ≡ code / 16 % 16 → e₃ ≡ code % 16
-      → (at + 8 ≡ at + length (term_of x k)) × (d ≡ sets b at (term_of x k))
-  unfolding double_word_bytes digits
-  term_put {code} c d w₀ w₁ w₂ w₃ e₀ e₁ e₂ e₃ l f e first second g₀ g₁ g₂ g₃ h₀ h₁ h₂ h₃ =
-      let same : term_of x k ≡ double_word_bytes x ++ exponents_at k = some_term x k (word_not_zero x (λ h. f (word_is ∙ h))) in
-      let front : c ≡ sets b at (double_word_bytes x)
-      = first ∙ (λ i. sets b at (g₀ i ∷ g₁ i ∷ g₂ i ∷ g₃ i ∷ []))
-      ∙ ap (λ y. sets b at (y % 256 ∷ y / 256 % 256 ∷ y / 65536 % 256 ∷ y / 16777216 ∷ [])) word_is in
-      let rest : e₀ ∷ e₁ ∷ e₂ ∷ e₃ ∷ [] ≡ exponents_at k = (λ i. h₀ i ∷ h₁ i ∷ h₂ i ∷ h₃ i ∷ []) ∙ ap digits e ∙ code_digits k l in (
+  -- four bytes of its word, then its exponents
+  pub term_put : {c d : List ℕ} → (of_z w64 x ≡ 0 → ⊥) → k < monomial_count → at + 8 ≤ length b → c ≡ double_word_bytes x → d ≡ exponents_at k
+      → (at + 8 ≡ at + length (term_of x k)) × (put_mid (at + 4) (at + 8 - (at + 4)) (put_mid at (at + 4 - at) b c) d ≡ sets b at (term_of x k))
+  unfolding double_word_bytes
+  term_put {c} {d} f l room is-word are-exponents =
+      let same : term_of x k ≡ double_word_bytes x ++ exponents_at k = some_term x k (bits_nonzero x f) in
+      let front : put_mid at (at + 4 - at) b c ≡ sets b at (double_word_bytes x) =
+      filled b c at (at + 4 - at) (omega (arith, ap length is-word, word_length x)) (omega (arith, ap length is-word, word_length x))
+      ∙ ap (sets b at) is-word in (
         omega (arith, ap length same, some_length x k l),
-        second ∙ ap₂ (λ y es. sets y (at + 4) es) front rest ∙ sym (ap (sets b at) same ∙ sets_append b at (double_word_bytes x) (exponents_at k)),
+        ap₂ (λ y es. put_mid (at + 4) (at + 8 - (at + 4)) y es) front are-exponents
+            ∙ filled (sets b at (double_word_bytes x)) (exponents_at k) (at + 4) (at + 8 - (at + 4)) (omega (arith, exponents_length k l))
+            (omega (arith, exponents_length k l, length-sets b at (double_word_bytes x)))
+            ∙ sym (ap (sets b at) same ∙ sets_append b at (double_word_bytes x) (exponents_at k)),
       )

@@ -42,13 +42,12 @@ terms_length p k (suc m) l =
 
 -- after k monomials: their terms from the front of the buffer, and the position behind them
 pub record TermsPut (before : List ℕ) (p : Polynomial) (after : List ℕ) (at k : ℕ) : Type 0 where
-  pub within : k ≤ monomial_count
   pub position : at ≡ length (terms_from p 0 k)
   pub buffer : after ≡ sets before 0 (terms_from p 0 k)
 
 pub terms_start : (b : List ℕ) (p : Polynomial) → TermsPut b p b 0 0
 unfolding terms_from
-terms_start b p = record { within = omega arith; position = refl; buffer = refl }
+terms_start b p = record { position = refl; buffer = refl }
 
 pub terms_more : {b c d : List ℕ} {at r k : ℕ} {p : Polynomial} {x : ℤ} → TermsPut b p c at k → k < monomial_count → x ≡ get_or p k 0ℤ
     → (r ≡ at + length (term_of x k)) × (d ≡ sets c at (term_of x k)) → TermsPut b p d r (k + 1)
@@ -57,7 +56,6 @@ terms_more {b} {c} {d} {at} {r} {k} {p} {x} h l e (f, g) =
     let term : List ℕ = term_of x k in
     let next : terms_from p 0 (k + 1) ≡ so_far ++ term = terms_next p k ∙ ap (λ y. so_far ++ term_of y k) (sym e) in
     record {
-      within = omega arith;
       position = omega (arith, ap length next, length-append so_far term, h.position);
       buffer = g
           ∙ ap₂ (λ y z. sets y z term) h.buffer h.position
@@ -73,9 +71,9 @@ unfolding monomial_count byte_count
 terms_room {b} {c} {at} {k} {p} h l e =
     omega (arith, h.position, terms_length p 0 k (omega arith), terms_long h)
 
-pub terms_whole : {b c : List ℕ} {at k : ℕ} {p : Polynomial} → TermsPut b p c at k → monomial_count ≤ k
+pub terms_whole : {b c : List ℕ} {at k : ℕ} {p : Polynomial} → TermsPut b p c at k → k ≤ monomial_count → monomial_count ≤ k
     → (at ≡ length (term_list p)) × (c ≡ sets b 0 (term_list p))
 unfolding term_list
-terms_whole {b} {c} {at} {k} {p} h l =
-    let all : k ≡ monomial_count = omega (arith, h.within) in
+terms_whole {b} {c} {at} {k} {p} h l m =
+    let all : k ≡ monomial_count = omega arith in
     (h.position ∙ ap (λ m. length (terms_from p 0 m)) all, h.buffer ∙ ap (λ m. sets b 0 (terms_from p 0 m)) all)

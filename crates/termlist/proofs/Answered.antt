@@ -11,9 +11,15 @@ use Rattle.paper.specs.Operations.{refused, answered, unless}
 use Rattle.formula.specs.Reader.{Reading, outside, reads, reading_of}
 use Rattle.formula.specs.Polynomial.{Polynomial, is_zero}
 use Rattle.formula.specs.Meaning.{on_result, unless_zero}
-use Rattle.formula.specs.Read.{nesting_limit, is_read, in_language, result_of, polynomial_of, is_none, formula_refusal, terms_of_result, term_list, formula_terms}
+use Rattle.formula.specs.Read.{nesting_limit, is_read, in_language, result_of, polynomial_of, is_none, formula_refusal, terms_of_result, term_list, formula_terms, handed_back}
 use Rattle.termbytes.specs.Terms.{answer_of}
-use Rattle.coefficients.specs.declared.InnerResult as InnerResult
+use Rattle.paper.specs.Refusals.{refusal_number}
+use Rattle.paper.specs.declared.Refusal as Refusal
+use Rattle.std.specs.Prelude as Prelude
+use Rattle.std.specs.Prelude.{Ok, Err}
+use Rattle.std.specs.Option.{ok_or}
+use Rattle.formula.specs.Answers.{handed_as}
+use Rattle.rows.specs.declared.Polynomial as Held
 use Rattle.coefficients.specs.Result.{result_as}
 use Rattle.readers.proofs.Steps.{Whole}
 
@@ -60,12 +66,20 @@ unfolding on_result unless_zero answer_of
 answers_terms n s p cells d h w e =
     behind n s (on_result unless_zero (some cells)) d h (of_whole n s p (some cells) w e) ∙ unless_zero_lem (every is_zero cells) cells
 
--- ---- a result as the code holds it
+-- ---- a refusal as the code holds it
 
-pub not_fine : (r : InnerResult.InnerResult) → r.fine ≡ false → result_as r ≡ none
-unfolding result_as
-not_fine r h = rw h refl
+pub refuses : (e : Refusal.Refusal) → handed_as (Err e) ≡ handed_back (refused (refusal_number e))
+unfolding handed_as handed_back
+refuses e = refl
 
-pub is_fine : (r : InnerResult.InnerResult) → r.fine ≡ true → result_as r ≡ some r.cells
+-- ---- an inner result as the code holds it, its lack a refusal
+
+pub of_some : (o : Prelude.Option Held.Polynomial) (p : Held.Polynomial) (e : Refusal.Refusal) → Ok p ≡ ok_or o e → result_as o ≡ some p.cells
 unfolding result_as
-is_fine r h = rw h refl
+of_some (Prelude.Some q) p e h = let same : q ≡ p = cc in ap (λ (x : Held.Polynomial). some x.cells) same
+of_some Prelude.None p e h = absurd cc
+
+pub of_none : (o : Prelude.Option Held.Polynomial) (d e : Refusal.Refusal) → Err d ≡ ok_or o e → (d ≡ e) × (result_as o ≡ none)
+unfolding result_as
+of_none (Prelude.Some q) d e h = absurd cc
+of_none Prelude.None d e h = (cc, refl)

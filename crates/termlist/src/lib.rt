@@ -3,44 +3,29 @@
 #![tactic(auto)]
 
 ghost use Rattle.std.specs.Prelude.{◌≡◌};
-ghost use Rattle.paper.specs.Operations.{refused};
 ghost use Rattle.formula.specs.Read.{formula_terms, handed_back};
 ghost use Rattle.formula.specs.Answers.{handed_as};
 
-use formula::FormulaAnswer;
-
-// A refusal: no terms.
-fn refusal(k: u64) -> FormulaAnswer
-    ensures { handed_as result ≡ handed_back (refused k) }
-{
-    let bytes = termbytes::no_bytes();
-    FormulaAnswer {
-        refusal: k,
-        count: 0,
-        bytes,
-    }
-}
+use formula::TermList;
+use paper::Refusal;
 
 // The deepest nesting of parentheses.
 const NESTING: usize = 16;
 
-// Reading a formula of dimension n: the refusal's number, or its terms.
-pub fn read_formula(n: usize, text: &[u8]) -> FormulaAnswer
+// Reading a formula of dimension n: its terms.
+pub fn read_formula(n: usize, text: &[u8]) -> Result<TermList, Refusal>
     ensures { handed_as result ≡ handed_back (formula_terms n text.now) }
 {
     if !limits::dimension_ok(n) {
-        return refusal(3);
+        return Err(Refusal::Dimension);
     }
     if !language::passes(text, n, text.len()) {
-        return refusal(14);
+        return Err(Refusal::Language);
     }
     if !language::passes(text, n, NESTING) {
-        return refusal(15);
+        return Err(Refusal::Formula);
     }
     let sum = readers::read_sum(text, 0, n, 0);
-    let result = sum.result;
-    if !result.fine {
-        return refusal(15);
-    }
-    termbytes::terms_of(&result.cells)
+    let result = sum.result.ok_or(Refusal::Formula)?;
+    termbytes::terms_of(&result)
 }

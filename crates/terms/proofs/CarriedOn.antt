@@ -1,12 +1,7 @@
 -- What the pass carries on: nothing from a term that is turned down, and from any other the least weight of the next term.
-use mathlib.Core.Path.{◌≡◌, refl, sym, ap, subst, ◌∙◌}
-use mathlib.Core.Logic.{◌≢◌}
-use mathlib.Core.Bool.{Bool, true, false, cond, ◌&&◌}
-use mathlib.Core.List.{List}
-use Prim.Native.Nat.{ℕ, suc, zero, ◌+◌, ◌-◌, ◌≤◌, ◌<◌}
-use native.Mathlib.Omega.{arith}
+use Rattle.std.proofs.Common.{◌≡◌, refl, sym, subst, ◌∙◌, Bool, true, false, ◌&&◌, List, ℕ, suc, zero, ◌+◌, ◌-◌, ◌≤◌, ◌<◌, arith, Some, None}
 use lib.Dec.{leb}
-use borrow.Author.Tests.{leb-true, leb-false, le-leb, ne_eqb}
+use borrow.Author.Tests.{le-leb, lt-leb, ne_eqb}
 use Rattle.exact.proofs.AndTests.{and_left}
 use Rattle.paper.specs.Job.{term_ok, rises}
 use Rattle.terms.specs.Carried.{short_weight, least_weight, CarriedTo, carried_on}
@@ -26,52 +21,54 @@ rises_least n b (suc i) {least} c h =
 module _ (n : ℕ) (b : List ℕ) (i : ℕ) where
   -- ---- at the end of a term's tests
 
-  pub carried_none : term_ok n b i ≡ false → 0 ≡ carried_on n b i
+  -- a test of its limits fails
+  pub carried_none : term_ok n b i ≡ false → None ≡ carried_on n b i
   unfolding carried_on
   carried_none h = rw h
 
   -- the last test, of the order
-  pub carried_last :
-      {least weight r : ℕ} → CarriedTo n b i least → term_ok n b i ≡ true → (least ≤ weight → r ≡ weight + 1) → (weight < least → r ≡ 0)
-      → weight ≡ short_weight b i → r ≡ carried_on n b i
-  unfolding carried_on least_weight
-  carried_last {least} {weight} {r} c h up down f = go (leb least weight) refl
-    where
-      test : (term_ok n b i && rises b i) ≡ leb least weight
-      test = rw (h, rises_least n b i c h, f) refl
+  module _ {least weight : ℕ} (c : CarriedTo n b i least) (h : term_ok n b i ≡ true) (f : weight ≡ short_weight b i) where
+    order : (term_ok n b i && rises b i) ≡ leb least weight
+    order = rw (h, rises_least n b i c h, f) refl
 
-      go : (p : Bool) → leb least weight ≡ p → r ≡ cond (term_ok n b i && rises b i) (short_weight b i + 1) 0
-      go true x = rw (test ∙ x) (up (leb-true least weight x) ∙ ap (λ (k : ℕ). k + 1) f)
-      go false x = rw (test ∙ x) (down (leb-false least weight x))
+    pub carried_rises : least ≤ weight → Some (weight + 1) ≡ carried_on n b i
+    unfolding carried_on least_weight
+    carried_rises l = rw (order ∙ le-leb _ _ l, f)
+
+    pub carried_falls : weight < least → None ≡ carried_on n b i
+    unfolding carried_on
+    carried_falls l = rw (order ∙ lt-leb _ _ l)
 
   -- ---- in the loop
 
   -- nothing is carried on: the term is turned down
-  pub carried_stops : carried_on n b i ≡ 0 → (term_ok n b i && rises b i) ≡ false
-  unfolding carried_on least_weight
+  pub carried_stops : None ≡ carried_on n b i → (term_ok n b i && rises b i) ≡ false
+  unfolding carried_on
   carried_stops h = go (term_ok n b i && rises b i) refl
     where
       go : (p : Bool) → (term_ok n b i && rises b i) ≡ p → (term_ok n b i && rises b i) ≡ false
-      go true e = absurd (omega (arith, rw e at h))
+      go true e = let k = rw e at h in cc
       go false e = e
 
   -- something is: the term passes, and it is the next one's least weight
-  pub carried_passes : carried_on n b i ≢ 0 → (term_ok n b i && rises b i) ≡ true
+  pub carried_passes : {next : ℕ} → Some next ≡ carried_on n b i → (term_ok n b i && rises b i) ≡ true
   unfolding carried_on
   carried_passes h = go (term_ok n b i && rises b i) refl
     where
       go : (p : Bool) → (term_ok n b i && rises b i) ≡ p → (term_ok n b i && rises b i) ≡ true
       go true e = e
-      go false e = absurd (h (rw e refl))
+      go false e = let k = rw e at h in cc
 
-  pub carried_next : carried_on n b i ≢ 0 → CarriedTo n b (i + 1) (carried_on n b i)
+  pub carried_next : {next : ℕ} → Some next ≡ carried_on n b i → CarriedTo n b (i + 1) next
   unfolding carried_on
-  carried_next h =
-      let next : suc i ≡ i + 1 = omega arith in
+  carried_next {next} h =
+      let passes = carried_passes h in
+      let same : suc i ≡ i + 1 = omega arith in
       let last : i ≡ i + 1 - 1 = omega arith in
+      let is : Some next ≡ Some (least_weight b (suc i)) = rw passes at h in
       record {
-        is = rw (carried_passes h) (ap (least_weight b) next);
-        before = λ p. subst (λ (k : ℕ). term_ok n b k ≡ true) last (and_left (term_ok n b i) (rises b i) (carried_passes h));
+        is = rw (← same) (cc);
+        before = λ p. subst (λ (k : ℕ). term_ok n b k ≡ true) last (and_left (term_ok n b i) (rises b i) passes);
       }
 
 -- nothing is carried to the first term

@@ -1,16 +1,19 @@
 -- What the pass over a polynomial's terms carries from one to the next: a least weight, which says all that it has to know of the terms before.
-use Rattle.std.specs.Prelude.{ℕ, suc, zero, ◌+◌, ◌*◌, ◌-◌, ◌<◌, ◌≡◌, Bool, true, cond, not, ◌&&◌, ◌||◌, List, leb, ltb, eqb, nat_abs}
+use Rattle.std.specs.Prelude.{ℕ, suc, zero, ◌+◌, ◌*◌, ◌-◌, ◌<◌, ◌≡◌, Bool, true, cond, not, ◌&&◌, ◌||◌, List, [], ◌∷◌, leb, ltb, eqb, nat_abs, sum, slice_index, Option, Some, None}
 use Rattle.paper.specs.Limits.{coefficient_limit, degree_limit}
-use Rattle.paper.specs.Job.{coefficient_of, exponent_of, term_ok, rises}
+use Rattle.paper.specs.Job.{coefficient_of, exponent_of, all_from, term_ok, rises}
 
 -- the part of `term_ok` that looks at the coefficient
 unfoldable pub coefficient_ok : List ℕ → ℕ → Bool
 coefficient_ok b i = not (eqb (nat_abs (coefficient_of b i)) 0) && leb (nat_abs (coefficient_of b i)) coefficient_limit
 
--- the other part, of its four exponents
-unfoldable pub exponents_ok : ℕ → ℕ → ℕ → ℕ → ℕ → Bool
-exponents_ok n x y z w =
-    (ltb 0 n || eqb x 0) && ((ltb 1 n || eqb y 0) && ((ltb 2 n || eqb z 0) && ((ltb 3 n || eqb w 0) && leb (x + y + z + w) degree_limit)))
+-- a term's four exponents
+unfoldable pub exponents_of : List ℕ → ℕ → List ℕ
+exponents_of b i = exponent_of b i 0 ∷ exponent_of b i 1 ∷ exponent_of b i 2 ∷ exponent_of b i 3 ∷ []
+
+-- the other part, of its exponents: an axis that dimension n does not have has 0
+unfoldable pub exponents_ok : ℕ → List ℕ → Bool
+exponents_ok n exponents = all_from (λ a. ltb a n || eqb (slice_index exponents a) 0) 0 4 && leb (sum exponents) degree_limit
 
 -- a term's exponents as the digits of a number, axis 1 weighing most, with 8 for the 256 of `exponent_weight`: within the limits, where an exponent is
 -- at most 4, terms have the same order by both
@@ -27,6 +30,6 @@ pub record CarriedTo (n : ℕ) (b : List ℕ) (i least : ℕ) : Type 0 where
   pub is : least ≡ least_weight b i
   pub before : 0 < i → term_ok n b (i - 1) ≡ true
 
--- what is carried on from term i: the least weight of the next one, or 0 if term i is turned down
-unfoldable pub carried_on : ℕ → List ℕ → ℕ → ℕ
-carried_on n b i = cond (term_ok n b i && rises b i) (least_weight b (suc i)) 0
+-- what is carried on from term i: the least weight of the next one, or nothing if term i is turned down
+unfoldable pub carried_on : ℕ → List ℕ → ℕ → Option ℕ
+carried_on n b i = cond (term_ok n b i && rises b i) (Some (least_weight b (suc i))) None

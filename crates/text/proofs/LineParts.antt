@@ -1,22 +1,15 @@
 -- The parts of a line as the functions write them, and the lines of document 01 put together from them.
-use mathlib.Core.Path.{◌≡◌, refl, sym, ap, ap₂, ◌∙◌}
-use mathlib.Core.List.{List, [], ◌∷◌, ◌++◌, map, append-nil, append_assoc}
-use Prim.Native.Nat.{ℕ, suc, zero, ◌-◌, ◌≤◌}
-use native.Mathlib.Omega.{arith}
-use lib.IntN.{ℤ, pos}
-use lib.ListN.{length, take}
+use Rattle.std.proofs.Common.{ℕ, zero, suc, ◌+◌, ◌-◌, ◌≤◌, ◌<◌, ◌≡◌, sym, ap, ◌∙◌, arith, List, [], ◌∷◌, ◌++◌, map, length, take, drop, get_or, append-nil, append_assoc, ℤ, pos}
+use Rattle.std.proofs.lemmas.List.{take_more, map-append}
 use mir.Syntax.{w64}
 use mir.Val.{SFits}
+use Rattle.exact.specs.Int.{0ℤ}
 use Rattle.exact.proofs.Bits.{back}
 use Rattle.paper.specs.Listing.{decimal, signed_decimal, blank_numbers, number_line, place_numbers, place_line}
 use Rattle.paper.proofs.Decimal.{blank_append}
-use Rattle.paper.specs.declared.StepPoint.{StepPoint}
+use Rattle.paper.specs.declared.HeldPlace.{HeldPlace}
 use Rattle.bits.proofs.SignedBits.{bits_are}
 use Rattle.places.specs.Held.{vertex_as, masks_as, facet_as}
-use Rattle.places.specs.declared.HeldPlace.{HeldPlace}
-use Rattle.decimals.specs.Written.{Writes}
-use Rattle.decimals.proofs.WrittenParts.{writes_then, writes_as}
-use Rattle.text.specs.Lines.{line_limit}
 
 -- ---- a blank and a number
 
@@ -28,108 +21,49 @@ pub blank_mask : (m : ℕ) → 32 ∷ decimal m ≡ blank_numbers (pos m ∷ [])
 unfolding signed_decimal
 blank_mask m = blank_number (pos m)
 
--- ---- the first of three numbers
+-- ---- one more of a list
 
-module _ (m : ℕ) {x : ℤ} (u v w : ℤ) (e : x ≡ u) where
-  pub one_shown : m ≡ 1 → blank_numbers (x ∷ []) ≡ blank_numbers (take m (u ∷ v ∷ w ∷ []))
-  one_shown h = rw (e, h)
+pub one_more : (v : List ℤ) (i : ℕ) → SFits w64 (get_or v i 0ℤ) → i < length v
+    → blank_numbers (take i v) ++ blank_numbers (back (get_or v i 0ℤ) ∷ []) ≡ blank_numbers (take (i + 1) v)
+one_more v i f h =
+    ap (λ (z : ℤ). blank_numbers (take i v) ++ blank_numbers (z ∷ [])) (bits_are f)
+    ∙ sym (blank_append (take i v) (get_or v i 0ℤ ∷ []))
+    ∙ ap blank_numbers (sym (take_more v i 0ℤ h))
 
-  module _ {y : ℤ} (f : y ≡ v) where
-    pub two_shown : m ≡ 2 → blank_numbers (x ∷ []) ++ blank_numbers (y ∷ []) ≡ blank_numbers (take m (u ∷ v ∷ w ∷ []))
-    two_shown h = rw (e, f, h) (sym (blank_append (u ∷ []) (v ∷ [])))
-
-    all_taken : (k : ℕ) → 1 ≤ k → (k ≡ 1 → ⊥) → (k ≡ 2 → ⊥) → take k (u ∷ v ∷ w ∷ []) ≡ u ∷ v ∷ w ∷ []
-    all_taken zero l g h = absurd (omega arith)
-    all_taken (suc zero) l g h = absurd (g refl)
-    all_taken (suc (suc zero)) l g h = absurd (h refl)
-    all_taken (suc (suc (suc zero))) l g h = refl
-    all_taken (suc (suc (suc (suc k)))) l g h = refl
-
-    pub three_shown : 1 ≤ m → (m ≡ 1 → ⊥) → (m ≡ 2 → ⊥) → {z : ℤ} → z ≡ w
-        → blank_numbers (x ∷ []) ++ (blank_numbers (y ∷ []) ++ blank_numbers (z ∷ [])) ≡ blank_numbers (take m (u ∷ v ∷ w ∷ []))
-    three_shown l g h i =
-        rw (e, f, i, all_taken m l g h)
-        (sym
-        (blank_append (u ∷ []) (v ∷ w ∷ [])
-        ∙ ap (λ (t : List ℕ). blank_numbers (u ∷ []) ++ t) (blank_append (v ∷ []) (w ∷ []))))
+pub one_mask_more : (l : List ℕ) (i : ℕ) → i < length l
+    → blank_numbers (map pos (take i l)) ++ blank_numbers (pos (get_or l i 0) ∷ []) ≡ blank_numbers (map pos (take (i + 1) l))
+one_mask_more l i h =
+    sym (blank_append (map pos (take i l)) (pos (get_or l i 0) ∷ []))
+    ∙ ap blank_numbers (sym (map-append pos (take i l) (get_or l i 0 ∷ [])) ∙ ap (map pos) (sym (take_more l i 0 h)))
 
 -- ---- a place's line
 
 -- the first number and those behind it
-first_taken : (n : ℕ) (x : ℤ) (v : List ℤ) → 1 ≤ n → x ∷ take (n - 1) v ≡ take n (x ∷ v)
-first_taken zero x v h = absurd (omega arith)
-first_taken (suc m) x v h = let less : suc m - 1 ≡ m = omega arith in rw less
+first_taken : (n : ℕ) (v : List ℤ) → 1 ≤ n → 0 < length v → get_or v 0 0ℤ ∷ take (n - 1) (drop 1 v) ≡ take n v
+first_taken zero v h l = absurd (omega arith)
+first_taken (suc m) [] h l = absurd (omega arith)
+first_taken (suc m) (x ∷ v) h l = ap (λ k. x ∷ take k v) (omega arith)
 
-map_take : {A B : Type 0} (f : A → B) (k : ℕ) (l : List A) → map f (take k l) ≡ take k (map f l)
-map_take f zero l = refl
-map_take f (suc k) [] = refl
-map_take f (suc k) (x ∷ l) = ap (λ t. f x ∷ t) (map_take f k l)
+-- numbers in four parts
+pub line_parts : (x : ℤ) (v m q : List ℤ)
+    → signed_decimal x ++ (blank_numbers v ++ (blank_numbers m ++ (blank_numbers q ++ (10 ∷ [])))) ≡ number_line (x ∷ (v ++ (m ++ q)))
+unfolding number_line
+line_parts x v m q =
+    ap (λ (t : List ℕ). signed_decimal x ++ t)
+    (sym
+    (ap (λ (t : List ℕ). t ++ (10 ∷ []))
+    (blank_append v (m ++ q) ∙ ap (λ (t : List ℕ). blank_numbers v ++ t) (blank_append m q))
+    ∙ simp append_assoc))
 
-module _ (p : HeldPlace) (point : List ℤ) where
-  -- the coordinates behind the first one, and the masks
-  later : ℕ → List ℤ
-  later m = take m (p.low.y ∷ p.low.z ∷ p.low.w ∷ [])
-
-  masks : ℕ → List ℤ
-  masks m = take m (pos p.mask1 ∷ pos p.mask2 ∷ pos p.mask3 ∷ [])
-
-  place_numbers_lem : (n : ℕ) → 1 ≤ n → p.low.x ∷ (later (n - 1) ++ (masks (n - 1) ++ point)) ≡ place_numbers (facet_as n p) point
-  unfolding place_numbers facet_as vertex_as masks_as later masks
-  place_numbers_lem n l =
-      ap₂ (λ (v m : List ℤ). v ++ (m ++ point)) (first_taken n p.low.x (p.low.y ∷ p.low.z ∷ p.low.w ∷ []) l)
-      (sym (map_take pos (n - 1) (p.mask1 ∷ p.mask2 ∷ p.mask3 ∷ [])))
-
-  pub place_text : (n : ℕ) → 1 ≤ n
-      → signed_decimal p.low.x
-      ++ (blank_numbers (take (n - 1) (p.low.y ∷ p.low.z ∷ p.low.w ∷ []))
-      ++ (blank_numbers (take (n - 1) (pos p.mask1 ∷ pos p.mask2 ∷ pos p.mask3 ∷ [])) ++ (blank_numbers point ++ (10 ∷ []))))
-      ≡ place_line (facet_as n p) point
-  unfolding place_line number_line later masks
-  place_text n l =
-      ap (λ (t : List ℕ). signed_decimal p.low.x ++ t)
-      (sym
-      (ap (λ (t : List ℕ). t ++ (10 ∷ []))
-      (blank_append (later (n - 1)) (masks (n - 1) ++ point)
-      ∙ ap (λ (t : List ℕ). blank_numbers (later (n - 1)) ++ t) (blank_append (masks (n - 1)) point))
-      ∙ simp append_assoc))
-      ∙ ap number_line (place_numbers_lem n l)
-
--- a point is written as the lowest vertex is, its first number and then those behind it
-point_text : (n : ℕ) (x : ℤ) (v : List ℤ) → 1 ≤ n
-    → blank_numbers (x ∷ []) ++ (blank_numbers (take (n - 1) v) ++ (10 ∷ [])) ≡ blank_numbers (take n (x ∷ v)) ++ (10 ∷ [])
-point_text n x v h =
-    sym (append_assoc (blank_numbers (x ∷ [])) (blank_numbers (take (n - 1) v)) (10 ∷ []))
-    ∙ ap (λ (t : List ℕ). t ++ (10 ∷ [])) (sym (blank_append (x ∷ []) (take (n - 1) v)) ∙ ap blank_numbers (first_taken n x v h))
-
--- the same with the numbers as the code hands them over
-module _ (n : ℕ) (p : HeldPlace) (q : StepPoint) (h : 1 ≤ n) (x : SFits w64 p.low.x) (y : SFits w64 p.low.y) (z : SFits w64 p.low.z)
-    (w : SFits w64 p.low.w) (a : SFits w64 q.x) (b : SFits w64 q.y) (c : SFits w64 q.z) (d : SFits w64 q.w) where
-  abbrev later_text : List ℕ
-  later_text = blank_numbers (take (n - 1) (back p.low.y ∷ back p.low.z ∷ back p.low.w ∷ []))
-
-  abbrev mask_text : List ℕ
-  mask_text = blank_numbers (take (n - 1) (pos p.mask1 ∷ pos p.mask2 ∷ pos p.mask3 ∷ []))
-
-  abbrev point_first : List ℕ
-  point_first = blank_numbers (back q.x ∷ [])
-
-  abbrev point_later : List ℕ
-  point_later = blank_numbers (take (n - 1) (back q.y ∷ back q.z ∷ back q.w ∷ []))
-
-  place_shown : signed_decimal (back p.low.x) ++ (later_text ++ (mask_text ++ (point_first ++ (point_later ++ (10 ∷ [])))))
-      ≡ place_line (facet_as n p) (take n (q.x ∷ q.y ∷ q.z ∷ q.w ∷ []))
-  place_shown =
-      (λ i. signed_decimal (bits_are x i)
-      ++ (blank_numbers (take (n - 1) (bits_are y i ∷ bits_are z i ∷ bits_are w i ∷ []))
-      ++ (mask_text
-      ++ (blank_numbers (bits_are a i ∷ []) ++ (blank_numbers (take (n - 1) (bits_are b i ∷ bits_are c i ∷ bits_are d i ∷ [])) ++ (10 ∷ []))))))
-      ∙ ap (λ (t : List ℕ). signed_decimal p.low.x ++ (blank_numbers (take (n - 1) (p.low.y ∷ p.low.z ∷ p.low.w ∷ [])) ++ (mask_text ++ t)))
-      (point_text n q.x (q.y ∷ q.z ∷ q.w ∷ []) h)
-      ∙ place_text p (take n (q.x ∷ q.y ∷ q.z ∷ q.w ∷ [])) n h
-
-  pub place_written : {at i j k l m r : ℕ} {s0 s1 s2 s3 s4 s5 s6 : List ℕ} → at ≤ length s0 → Writes 21 (signed_decimal (back p.low.x)) at s0 s1 i
-      → Writes 66 later_text i s1 s2 j → Writes 63 mask_text j s2 s3 k → Writes 22 point_first k s3 s4 l → Writes 66 point_later l s4 s5 m
-      → Writes 1 (10 ∷ []) m s5 s6 r → Writes line_limit (place_line (facet_as n p) (take n (q.x ∷ q.y ∷ q.z ∷ q.w ∷ []))) at s0 s6 r
-  place_written l first second third fourth fifth last =
-      writes_as place_shown (omega arith)
-      (writes_then l first (λ l. writes_then l second (λ l. writes_then l third (λ l. writes_then l fourth (λ l. writes_then l fifth (λ l. last))))))
+-- the first number as the code hands it over
+pub place_text : (n : ℕ) (p : HeldPlace) (point : List ℤ) → 1 ≤ n → 0 < length p.low.coordinates → SFits w64 (get_or p.low.coordinates 0 0ℤ)
+    → signed_decimal (back (get_or p.low.coordinates 0 0ℤ))
+    ++ (blank_numbers (take (n - 1) (drop 1 p.low.coordinates)) ++ (blank_numbers (map pos (take (n - 1) p.masks)) ++ (blank_numbers point ++ (10 ∷ []))))
+    ≡ place_line (facet_as n p) point
+unfolding place_line place_numbers facet_as vertex_as masks_as
+place_text n p point l h f =
+    let later : List ℤ = take (n - 1) (drop 1 p.low.coordinates) in
+    let masks : List ℤ = map pos (take (n - 1) p.masks) in
+    ap (λ (z : ℤ). signed_decimal z ++ (blank_numbers later ++ (blank_numbers masks ++ (blank_numbers point ++ (10 ∷ []))))) (bits_are f)
+    ∙ line_parts (get_or p.low.coordinates 0 0ℤ) later masks point
+    ∙ ap (λ (v : List ℤ). number_line (v ++ (masks ++ point))) (first_taken n p.low.coordinates l h)

@@ -1,6 +1,7 @@
+// Readable sums and values: document 01, section "Crossed", and the bias of request 2.7.
+
 #![tactic(auto)]
 
-// Readable sums and values: document 01, section "Crossed", and the bias of request 2.7.
 ghost use Rattle.std.specs.Prelude.{◌≡◌};
 ghost use Rattle.exact.specs.Size.{Size};
 ghost use Rattle.paper.specs.Limits.{readable_limit};
@@ -13,10 +14,7 @@ use bits::read;
 fn readable_limit(n: usize) -> u64
     ensures { result ≡ readable_limit n }
 {
-    if n == 4 {
-        return 524288;
-    }
-    268435456
+    if n == 4 { 524288 } else { 268435456 }
 }
 
 // A sum is readable up to the limit in size.
@@ -32,8 +30,5 @@ pub fn value_of(bias: u64, z: i64) -> i64
     requires { Size sum_limit z }
     ensures { result ≡ value_of bias z }
 {
-    if read::size(z) <= bias {
-        return 0;
-    }
-    z
+    if read::size(z) <= bias { 0 } else { z }
 }

@@ -4,14 +4,14 @@
 #![tactic(auto)]
 
 ghost use Rattle.std.specs.Prelude.{◌≡◌};
-ghost use Rattle.paper.specs.Answers.{stepped_as, verdict_as, traced_as};
-ghost use Rattle.walknumbers.specs.Numbers.{without_place, step_numbers, verdict_number, trace_numbers};
+ghost use Rattle.paper.specs.Answers.{stepped_as, traced_as};
+ghost use Rattle.walknumbers.specs.Numbers.{step_numbers, trace_numbers};
 
-use paper::{Stepped, Traced, Verdict};
+use paper::{HeldPlace, Refusal, Stop, Traced};
 
 // Outcome 0: the next place; 1: edge; 2: limit.
 #[repr(C)]
-#[derive(Clone, Copy)]
+#[derive(Clone, Copy, Debug, PartialEq, Eq, Default)]
 pub struct StepAnswer {
     pub refusal: u64,
     pub outcome: u64,
@@ -25,81 +25,64 @@ pub struct StepAnswer {
     pub side: u64,
 }
 
+impl From<Result<Result<HeldPlace, Stop>, Refusal>> for StepAnswer {
+    ghost from_gives = { λ answer numbers. numbers ≡ step_numbers (stepped_as answer) };
+
+    #[tactic(auto, unfolding(crate::specs::Numbers::without_place, crate::specs::Numbers::step_numbers, paper::specs::Answers::placed_as, paper::specs::Answers::stop_as, paper::specs::Answers::next_as, paper::specs::Answers::stepped_as, paper::specs::Refusals::answer_by))]
+    fn from(answer: Result<Result<HeldPlace, Stop>, Refusal>) -> StepAnswer {
+        match answer {
+            Ok(Ok(p)) => StepAnswer {
+                refusal: 0,
+                outcome: 0,
+                x: p.low.coordinates[0],
+                y: p.low.coordinates[1],
+                z: p.low.coordinates[2],
+                w: p.low.coordinates[3],
+                mask1: p.masks[0],
+                mask2: p.masks[1],
+                mask3: p.masks[2],
+                side: p.side,
+            },
+            Ok(Err(Stop::Edge)) => StepAnswer {
+                outcome: 1,
+                ..StepAnswer::default()
+            },
+            Ok(Err(Stop::Limit)) => StepAnswer {
+                outcome: 2,
+                ..StepAnswer::default()
+            },
+            Err(refusal) => StepAnswer {
+                refusal: refusal.number(),
+                ..StepAnswer::default()
+            },
+        }
+    }
+}
+
 // Verdict 0: loop; 1: edge; 2: limit; 3: full.
 #[repr(C)]
-#[derive(Clone, Copy)]
+#[derive(Clone, Copy, Debug, PartialEq, Eq, Default)]
 pub struct TraceAnswer {
     pub refusal: u64,
     pub verdict: u64,
     pub count: u64,
 }
 
-// Step's answer where there is no next place.
-fn without_place(refusal: u64, outcome: u64) -> StepAnswer
-    ensures { result ≡ without_place refusal outcome }
-{
-    StepAnswer {
-        refusal,
-        outcome,
-        x: 0,
-        y: 0,
-        z: 0,
-        w: 0,
-        mask1: 0,
-        mask2: 0,
-        mask3: 0,
-        side: 0,
-    }
-}
+impl From<Result<Traced, Refusal>> for TraceAnswer {
+    ghost from_gives = { λ answer numbers. numbers ≡ trace_numbers (traced_as answer) };
 
-// Step.
-pub fn step_numbers(answer: Stepped) -> StepAnswer
-    ensures { result ≡ step_numbers (stepped_as answer) }
-{
-    match answer {
-        Stepped::Refused(refusal) => without_place(refusal, 0),
-        Stepped::Edge => without_place(0, 1),
-        Stepped::Limit => without_place(0, 2),
-        Stepped::Next(p) => StepAnswer {
-            refusal: 0,
-            outcome: 0,
-            x: p.x,
-            y: p.y,
-            z: p.z,
-            w: p.w,
-            mask1: p.mask1,
-            mask2: p.mask2,
-            mask3: p.mask3,
-            side: p.side,
-        },
-    }
-}
-
-fn verdict_number(verdict: Verdict) -> u64
-    ensures { result ≡ verdict_number (verdict_as verdict) }
-{
-    match verdict {
-        Verdict::Loop => 0,
-        Verdict::Edge => 1,
-        Verdict::Limit => 2,
-        Verdict::Full => 3,
-    }
-}
-
-// Trace.
-pub fn trace_numbers(answer: Traced) -> TraceAnswer
-    ensures { result ≡ trace_numbers (traced_as answer) }
-{
-    match answer {
-        Traced::Refused(refusal) => TraceAnswer {
-            refusal,
-            verdict: 0,
-            count: 0,
-        },
-        Traced::Listed(verdict, count) => TraceAnswer {
-            refusal: 0,
-            verdict: verdict_number(verdict),
-            count,
-        },
+    #[tactic(auto, unfolding(crate::specs::Numbers::verdict_number, crate::specs::Numbers::trace_numbers, paper::specs::Answers::verdict_as, paper::specs::Answers::verdict_count, paper::specs::Answers::traced_as, paper::specs::Refusals::answer_by))]
+    fn from(answer: Result<Traced, Refusal>) -> TraceAnswer {
+        match answer {
+            Ok(traced) => TraceAnswer {
+                refusal: 0,
+                verdict: traced.verdict as u64,
+                count: traced.count,
+            },
+            Err(refusal) => TraceAnswer {
+                refusal: refusal.number(),
+                ..TraceAnswer::default()
+            },
+        }
     }
 }

@@ -9,6 +9,7 @@ use mathlib.Core.List.{List, [], ◌∷◌, ◌++◌, append-nil, append_assoc}
 use lib.IntN.{ℤ}
 use lib.ListN.{length, drop, length-append}
 use lib.Seq.{sets, length-sets, sets-eq}
+use Rattle.std.proofs.Common.{Result, Err}
 use Rattle.curves.specs.Grid.{Place}
 use Rattle.curves.specs.Walk.{Trace, after_step, trace_from, trace, full}
 use Rattle.curves.specs.Step.{Stop}
@@ -16,17 +17,15 @@ use Rattle.curves.proofs.GridStep.{accepted}
 use Rattle.paper.specs.Job.{encode_place}
 use Rattle.paper.specs.Values.{field_of}
 use Rattle.paper.specs.Operations.{answered, step_in, on_same_facet, encode_places, verdict_and_count, places_over, buffer_after}
-use Rattle.paper.specs.Answers.{verdict_as, traced_as}
+use Rattle.paper.specs.Answers.{verdict_as, verdict_count}
 use Rattle.paper.specs.declared.Verdict as Verdict
-use Rattle.paper.specs.declared.Traced as Traced
 use Rattle.paper.proofs.Encode.{encode_length}
 use Rattle.places.specs.Held.{place_as}
-use Rattle.places.specs.declared.HeldPlace.{HeldPlace}
+use Rattle.paper.specs.declared.HeldPlace.{HeldPlace}
 use Rattle.bits.proofs.Sets.{sets_append}
 use Rattle.places.proofs.PlaceStored.{encode_places_snoc}
 use Rattle.step.specs.Held.{Held}
 use Rattle.carried.specs.declared.Entered.{Entered}
-use Rattle.ahead.specs.declared.Visited as Code
 use Rattle.ahead.specs.Visited.{GoesOn, VisitedIs}
 use Rattle.walks.specs.Visited.{Visits, trace_over, Walks}
 
@@ -62,8 +61,8 @@ under_way {s} {n} {start} before h = record {
 listed : {s : List ℕ} {n : ℕ} {start : HeldPlace} {before buffer : List ℕ} (ps : List Place) (v : Verdict.Verdict) {count : ℕ}
     → trace_over s n start before ≡ record { verdict = verdict_as v; places = ps } → length ps ≡ count
     → buffer ≡ sets before 0 (encode_places ps) → length (encode_places ps) ≤ length before
-    → Walks s n start before buffer (Traced.TheVariants.Listed v count)
-unfolding traced_as verdict_and_count buffer_after places_over
+    → Walks s n start before buffer (record { verdict = v; count = count })
+unfolding verdict_count verdict_and_count buffer_after places_over
 listed {before} ps v e l b fits = record {
   answer = ap (λ k. answered (verdict_as v, k)) (sym l) ∙ (λ i. answered ((sym e i).verdict, length (sym e i).places));
   buffer =
@@ -82,32 +81,22 @@ module _ {s : List ℕ} {n : ℕ} {start : HeldPlace} {before buffer : List ℕ}
   pub same_size : length buffer ≡ length before
   same_size = ap length u.stored ∙ length-sets before 0 (encode_places u.so_far)
 
-  pub has_room : count < length before / (3 * n) → count * (3 * n) + 3 * n ≤ length buffer
-  has_room h = omega (arith, room n count (length before) h, same_size, mul_comm count (3 * n))
-
-  -- a place more is counted
-  pub counts_on : count < length before / (3 * n) → count + 1 ≤ length before
-  counts_on h = omega (arith, h, div-le_self (length before) (3 * n))
-
   -- no space is left
-  pub is_full : length before / (3 * n) ≤ count → Walks s n start before buffer (Traced.TheVariants.Listed Verdict.TheVariants.Full count)
+  pub is_full : length before / (3 * n) ≤ count → Walks s n start before buffer (record { verdict = Verdict.TheVariants.Full; count = length before / (3 * n) })
   unfolding trace_from verdict_as
   is_full h =
       let none : u.left ≡ 0 = omega (arith, u.space) in
-      let few : count ≤ length before / (3 * n) = omega (arith, u.space) in
+      let whole : count ≡ length before / (3 * n) = omega (arith, u.space) in
       listed u.so_far Verdict.TheVariants.Full
       (u.rest
       ∙ ap (λ k. joined u.so_far (trace_from (step_in s) on_same_facet (place_as n start) k (place_as n here))) none
       ∙ (λ i. record { verdict = full; places = append-nil u.so_far i }))
-      u.counted u.stored
+      (u.counted ∙ whole) u.stored
       (subst (λ k. k ≤ length before) (sym u.bytes)
-      (le_trans (mul-le-mul_left (3 * n) few) (mul-div-le (length before) (3 * n))))
+      (subst (λ k. 3 * n * k ≤ length before) (sym whole) (mul-div-le (length before) (3 * n))))
 
-  module _ (more : count < length before / (3 * n)) {after : List ℕ} {r : Code.Visited} {cells : List ℤ}
+  module _ (more : count < length before / (3 * n)) {after : List ℕ} {r : Result Entered Verdict.Verdict} {cells : List ℤ}
       (v : Visits s n start here (count * (3 * n)) buffer after r cells) where
-    pub after_size : length after ≡ length before
-    after_size = ap length v.buffer ∙ length-sets buffer (count * (3 * n)) (encode_place (place_as n here)) ∙ same_size
-
     longer : List Place
     longer = u.so_far ++ (place_as n here ∷ [])
 
@@ -149,8 +138,8 @@ module _ {s : List ℕ} {n : ℕ} {start : HeldPlace} {before buffer : List ℕ}
         u.rest ∙ ap (λ k. joined u.so_far (trace_from (step_in s) on_same_facet (place_as n start) k (place_as n here))) one
 
     -- the verdict
-    pub is_over : {w : Verdict.Verdict} → VisitedIs s n (place_as n start) (place_as n here) (Code.TheVariants.Over w) cells
-        → Walks s n start before after (Traced.TheVariants.Listed w (count + 1))
+    pub is_over : {w : Verdict.Verdict} → VisitedIs s n (place_as n start) (place_as n here) (Err w) cells
+        → Walks s n start before after (record { verdict = w; count = count + 1 })
     unfolding longer
     is_over {w} e =
         listed longer w (turned ∙ ap (joined u.so_far) (e (λ y. trace_from (step_in s) on_same_facet (place_as n start) (u.left - 1) y)))

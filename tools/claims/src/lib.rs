@@ -61,7 +61,7 @@ pub fn declared_name(name: &str) -> &str {
 fn declares(line: &str, name: &str, rust: bool) -> bool {
     let line = line.trim_start();
     if rust {
-        let item = ["fn ", "struct ", "enum ", "const ", "mod ", "type "]
+        let item = ["fn ", "struct ", "enum ", "const ", "static ", "mod ", "type "]
             .iter()
             .filter_map(|word| line.find(word).map(|at| (at, &line[at + word.len()..])))
             .any(|(at, rest)| {
@@ -94,11 +94,18 @@ fn word_then(text: &str, word: &str, behind: &[char]) -> bool {
         .is_some_and(|rest| behind.contains(&rest.chars().next().unwrap_or('\0')))
 }
 
-/// The first line, counted from 1, at which a file declares a name.
+/// The line, counted from 1, at which a file declares the name of a link: of a method, whose type stands
+/// before it as in `OpenJob::open`, the first inside a block, and of anything else the first outside, if any.
 pub fn declaration(path: &Path, name: &str) -> Option<usize> {
     let rust = path.extension().is_some_and(|end| end == "rt" || end == "rs");
     let text = fs::read_to_string(path).ok()?;
-    text.lines().position(|line| declares(line, name, rust)).map(|at| at + 1)
+    let found = |line: &&str| declares(line, declared_name(name), rust);
+    let method = rust && name.rsplit("::").nth(1).is_some_and(|of| of.starts_with(char::is_uppercase));
+    let inside = |line: &str| line.starts_with(' ');
+    text.lines()
+        .position(|line| found(&line) && (!rust || inside(line) == method))
+        .or_else(|| text.lines().position(|line| found(&line)))
+        .map(|at| at + 1)
 }
 
 /// The line that a link should name: none for an edit or another file that declares nothing.
@@ -111,7 +118,7 @@ pub fn right_line(link: &Link) -> Result<Option<usize>, String> {
     if !path.extension().is_some_and(|end| kept.iter().any(|kind| end == *kind)) {
         return Ok(None);
     }
-    match declaration(&path, declared_name(&link.name)) {
+    match declaration(&path, &link.name) {
         Some(line) => Ok(Some(line)),
         None => Err(format!("`{}` is not declared in {}", link.name, link.target)),
     }

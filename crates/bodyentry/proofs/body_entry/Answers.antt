@@ -3,37 +3,44 @@ use mathlib.Core.Path.{sym, ◌∙◌}
 use native.Mathlib.Omega.{arith}
 use Rattle.paper.specs.Job.{entry_offset, entry_length}
 use Rattle.paper.proofs.Bodies.{refused_part}
+use Rattle.paper.proofs.Refused.{refusal_some}
 use Rattle.bodyentry.proofs.EntryInside.{refused_entry, entry_inside, given_entry, given_bytes, given_inside}
-use borrow.Author.Rules.{rules}
 use Rattle.bodyentry.proofs.body_entry.Goals as goal
 
-pub returns-then-refusal-ne0 : goal.returns-then-refusal-ne0
-returns-then-refusal-ne0 c =
-    let refuses = c.body_refusal-refusal.ensures in
-    record { numbers = refused_entry _ _ refuses c.if-refusal-ne0.true; part = sym (refused_part _ _ (λ h. c.if-refusal-ne0.true (refuses ∙ h))); inside = search rules }
+pub returns-in-Some-clause-numbers : goal.returns-in-Some-clause-numbers
+returns-in-Some-clause-numbers c =
+    rw (c.default.ensures.1.0, c.default.ensures.1.1)
+    (refused_entry _ _ (c.number.ensures ∙ c.in-Some.ensures) (λ h. refusal_some c.in-Some.refusal (sym c.number.ensures ∙ h)))
+
+pub returns-in-Some-clause-part : goal.returns-in-Some-clause-part
+returns-in-Some-clause-part c =
+    rw (c.default.ensures.1.0, c.default.ensures.1.1) (sym (refused_part _ _ (λ h. refusal_some c.in-Some.refusal (c.in-Some.ensures ∙ h))))
 
 pub overflow_mul-k : goal.overflow_mul-k
-overflow_mul-k c = let inside = entry_inside _ _ (sym c.body_refusal-refusal.ensures ∙ c.if-refusal-ne0.false) in omega arith
+overflow_mul-k c = let inside = entry_inside _ _ c.in-None.ensures in omega arith
 
 pub overflow_add-k : goal.overflow_add-k
-overflow_add-k c = let inside = entry_inside _ _ (sym c.body_refusal-refusal.ensures ∙ c.if-refusal-ne0.false) in omega arith
+overflow_add-k c = let inside = entry_inside _ _ c.in-None.ensures in omega arith
 
 pub word-requires : goal.word-requires
-word-requires c = let inside = entry_inside _ _ (sym c.body_refusal-refusal.ensures ∙ c.if-refusal-ne0.false) in omega arith
+word-requires c = let inside = entry_inside _ _ c.in-None.ensures in omega arith
 
-pub overflow_mul-k-2 : goal.overflow_mul-k-2
-overflow_mul-k-2 c = let inside = entry_inside _ _ (sym c.body_refusal-refusal.ensures ∙ c.if-refusal-ne0.false) in omega arith
+pub overflow_mul-k-in-None : goal.overflow_mul-k-in-None
+overflow_mul-k-in-None c = let inside = entry_inside _ _ c.in-None.ensures in omega arith
 
-pub overflow_add-k-2 : goal.overflow_add-k-2
-overflow_add-k-2 c = let inside = entry_inside _ _ (sym c.body_refusal-refusal.ensures ∙ c.if-refusal-ne0.false) in omega arith
+pub overflow_add-k-in-None : goal.overflow_add-k-in-None
+overflow_add-k-in-None c = let inside = entry_inside _ _ c.in-None.ensures in omega arith
 
-pub word-requires-2 : goal.word-requires-2
-word-requires-2 c = let inside = entry_inside _ _ (sym c.body_refusal-refusal.ensures ∙ c.if-refusal-ne0.false) in omega arith
+pub word-requires-in-None : goal.word-requires-in-None
+word-requires-in-None c = let inside = entry_inside _ _ c.in-None.ensures in omega arith
 
-pub returns : goal.returns
+pub returns-in-None : goal.returns-in-None
 unfolding entry_offset entry_length
-returns c =
-    let given = sym c.body_refusal-refusal.ensures ∙ c.if-refusal-ne0.false in
+returns-in-None c =
     let at = c.word.ensures.is in
-    let size = c.word-2.ensures.is in
-    record { numbers = given_entry _ _ given at size; part = given_bytes _ _ given at size; inside = given_inside _ _ given at size }
+    let size = c.word-in-None.ensures.is in
+    record {
+      numbers = given_entry _ _ c.in-None.ensures at size;
+      part = given_bytes _ _ c.in-None.ensures at size;
+      inside = given_inside _ _ c.in-None.ensures at size;
+    }

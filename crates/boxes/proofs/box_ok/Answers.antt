@@ -1,5 +1,4 @@
 -- `boxes::box_ok` meets its contract: the box with the paper's two limits.
-use borrow.Author.Rules.{rules}
 use Rattle.boxes.proofs.BoxTests.{paper_box}
 use Rattle.boxes.proofs.box_ok.Goals as goal
 

@@ -1,17 +1,18 @@
 -- `chains::count` meets its contract.
-use mathlib.Core.Path.{sym, ap, ◌∙◌}
-use Rattle.chains.proofs.ChainTable.{chain_count, chains_counted, four_left}
+use Rattle.std.proofs.Common.{◌≡◌, ◌∙◌, sym, ap, arith}
+use Rattle.chains.proofs.ChainTable.{chain_count, chains_counted}
 use Rattle.chains.proofs.count.Goals as goal
 
-pub returns-then-n-eq2 : goal.returns-then-n-eq2
+pub returns-in-2 : goal.returns-in-2
 unfolding chain_count
-returns-then-n-eq2 c = sym (chains_counted _ c.requires ∙ ap chain_count c.if-n-eq2.true)
+returns-in-2 c = sym (chains_counted c.args.n c.requires ∙ ap chain_count c.in-2.is)
 
-pub returns-then-n-eq3 : goal.returns-then-n-eq3
+pub returns-in-3 : goal.returns-in-3
 unfolding chain_count
-returns-then-n-eq3 c = sym (chains_counted _ c.requires ∙ ap chain_count c.if-n-eq3.true)
+returns-in-3 c = sym (chains_counted c.args.n c.requires ∙ ap chain_count c.in-3.is)
 
-pub returns : goal.returns
+pub returns-in_default : goal.returns-in_default
 unfolding chain_count
-returns c =
-    sym (chains_counted _ c.requires ∙ ap chain_count (four_left _ c.requires c.if-n-eq2.false c.if-n-eq3.false))
+returns-in_default c =
+    let four : c.args.n ≡ 4 = omega (arith, c.requires.low, c.requires.high) in
+    sym (chains_counted c.args.n c.requires ∙ ap chain_count four)

@@ -1,16 +1,16 @@
 -- `chains::first` meets its contract.
-use borrow.Author.Tests.{eq-eqb, ne_eqb}
+use Rattle.std.proofs.Common.{◌≡◌, arith}
 use Rattle.chains.specs.Chains.{first_chain}
 use Rattle.chains.proofs.first.Goals as goal
 
-pub returns-then-n-eq2 : goal.returns-then-n-eq2
+pub returns-in-2 : goal.returns-in-2
 unfolding first_chain
-returns-then-n-eq2 c = rw (eq-eqb _ _ c.if-n-eq2.true)
+returns-in-2 c = rw c.in-2.is
 
-pub returns-then-n-eq3 : goal.returns-then-n-eq3
+pub returns-in-3 : goal.returns-in-3
 unfolding first_chain
-returns-then-n-eq3 c = rw (ne_eqb _ _ c.if-n-eq2.false, eq-eqb _ _ c.if-n-eq3.true)
+returns-in-3 c = rw c.in-3.is
 
-pub returns : goal.returns
+pub returns-in_default : goal.returns-in_default
 unfolding first_chain
-returns c = rw (ne_eqb _ _ c.if-n-eq2.false, ne_eqb _ _ c.if-n-eq3.false)
+returns-in_default c = let four : c.args.n ≡ 4 = omega (arith, c.requires.low, c.requires.high) in rw four

@@ -1,31 +1,31 @@
--- `coefficients::opposite` meets its contract: it is the difference from 0.
-use mathlib.Core.Path.{ap, ◌∙◌}
-use mathlib.Core.Bool.{true}
-use Rattle.paper.specs.Limits.{coefficient_limit}
-use Rattle.formula.specs.Polynomial.{zero_polynomial, within, cellwise, difference_of}
-use Rattle.formula.specs.Meaning.{on_result}
-use Rattle.rows.proofs.Bounds.{zero_bounded}
-use Rattle.coefficients.specs.Result.{result_as, joined_by}
-use Rattle.coefficients.proofs.Limits.{kept_bounded}
-use Rattle.coefficients.proofs.Results.{same_missing, on_there, joined_within}
+-- `coefficients::opposite` meets its contract.
+use Rattle.std.proofs.Common.{◌≡◌}
+use Rattle.exact.specs.Int.{◌⊖◌, 0ℤ}
+use Rattle.formula.specs.Polynomial.{monomial_count, zero_polynomial, cell, cellwise}
+use Rattle.coefficients.proofs.CellsMade.{made_starts, opposite_fits, opposite_next, opposite_ends, opposite_kept, opposite_is}
 use Rattle.coefficients.proofs.opposite.Goals as goal
+use Rattle.coefficients.proofs.opposite.Goals.{After-loop-k}
 
-pub returns-then-not-fine : goal.returns-then-not-fine
-returns-then-not-fine c = (same_missing (difference_of zero_polynomial) c.args.q c.if-not-fine.true-raw, c.requires)
+pub loop-k-init : goal.loop-k-init
+loop-k-init c = made_starts (λ j. 0ℤ ⊖ cell c.args.q.now.cells j) c.args.q.now.cells c.args.q.now.kept.0
 
-pub joined_cells-cells-requires : goal.joined_cells-cells-requires
-joined_cells-cells-requires c =
-    (rw c.zeros-none.ensures (zero_bounded coefficient_limit), kept_bounded c.requires)
+pub overflow_sub-cells : goal.overflow_sub-cells
+overflow_sub-cells c = opposite_fits c.args.q.now.cells c.args.q.now.kept c.loop-k.invariant
 
-pub settled-requires : goal.settled-requires
-settled-requires c = c.joined_cells-cells.ensures.1
+pub loop-k-preserved : goal.loop-k-preserved
+unfolding monomial_count
+loop-k-preserved c = opposite_next c.args.q.now.cells c.args.q.now.kept c.loop-k.invariant c.loop-k-test.true
+
+made : (c : After-loop-k) → c.loop-k.cells ≡ cellwise ◌⊖◌ zero_polynomial c.args.q.now.cells
+unfolding monomial_count
+made c = opposite_ends c.args.q.now.cells c.args.q.now.kept c.loop-k.invariant c.loop-k-test.false
+
+pub invariant_of-result : goal.invariant_of-result
+invariant_of-result c =
+    let is = made (goal.at.invariant_of-result c).After-loop-k in
+    record { kept = opposite_kept c.args.q.now.cells c.args.q.now.kept is c.loop-k.invariant.long }
 
 pub returns : goal.returns
-unfolding on_result result_as
 returns c =
-    let q = c.args.q in (
-      on_there (difference_of zero_polynomial) q c.if-not-fine.false-raw
-          (c.settled.ensures.0 ∙ ap within c.joined_cells-cells.ensures.0
-          ∙ ap (λ z. within (cellwise (joined_by true) z q.cells)) c.zeros-none.ensures ∙ joined_within true zero_polynomial q.cells),
-      c.settled.ensures.1,
-    )
+    let is = made (goal.at.returns c).After-loop-k in
+    record { value = opposite_is c.args.q.now.cells c.args.q.now.kept is; cells = is }

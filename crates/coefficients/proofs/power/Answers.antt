@@ -1,40 +1,32 @@
--- `coefficients::power` meets its contract. The loop's invariant: r is the power j. What the call in the loop needs and ensures is not named here, so
--- that another call is refused for what it says.
-use mathlib.Core.Path.{◌≡◌, ap, ◌∙◌}
-use native.Mathlib.Omega.{arith}
-use borrow.Author.Rules.{rules}
+-- `coefficients::power` meets its contract.
+use Rattle.std.proofs.Common.{◌≡◌, ◌+◌, ◌∙◌, sym, ap, arith}
 use Rattle.formula.specs.Meaning.{power_of}
-use Rattle.coefficients.proofs.Results.{same_missing, on_there, power_starts, power_next}
+use Rattle.coefficients.specs.Result.{result_as}
+use Rattle.coefficients.proofs.Powers.{power_starts, power_next, power_none}
 use Rattle.coefficients.proofs.power.Goals as goal
 
-pub returns-then-not-fine : goal.returns-then-not-fine
-returns-then-not-fine c = (same_missing (λ x. power_of x c.args.k) c.args.p c.if-not-fine.true-raw, c.requires.0)
+pub returns-in_err-r : goal.returns-in_err-r
+unfolding result_as
+returns-in_err-r c =
+    ap result_as c.from_residual.ensures ∙ power_none c.args.p.now.cells 0 c.args.k (omega arith) (c.in_err-r.ensures ∙ sym (power_starts c.args.p.now.cells))
 
-pub constant-r-requires : goal.constant-r-requires
-constant-r-requires c = omega arith
+pub returns-in_err-r-2 : goal.returns-in_err-r-2
+unfolding result_as
+returns-in_err-r-2 c =
+    let p = c.args.p.now.cells in
+    ap result_as c.from_residual-in_err-r-2.ensures
+    ∙ power_none p (c.loop.counter + 1) c.args.k (omega arith) (c.in_err-r-2.ensures ∙ sym (power_next p c.loop.counter c.loop.invariant))
 
-pub loop-j-init : goal.loop-j-init
-loop-j-init c =
-    (omega arith, (c.constant-r.ensures.0 ∙ power_starts c.args.p.cells, c.constant-r.ensures.1))
+pub loop-init : goal.loop-init
+unfolding result_as
+loop-init c = c.in_ok-r.ensures ∙ sym (power_starts c.args.p.now.cells)
 
-pub overflow_add-j : goal.overflow_add-j
-overflow_add-j c = omega (arith, c.requires.1)
-
-pub loop-j-smaller : goal.loop-j-smaller
-loop-j-smaller c = omega arith
-
-pub loop-j-preserved : goal.loop-j-preserved
-loop-j-preserved c =
-    let loop = c.loop-j in (
-      omega arith,
-      (power_next c.args.p loop.j c.if-not-fine.false-raw loop.invariant.1.0 (search rules), search rules),
-    )
+pub loop-preserved : goal.loop-preserved
+unfolding result_as
+loop-preserved c = c.in_ok-r-2.ensures ∙ sym (power_next c.args.p.now.cells c.loop.counter c.loop.invariant)
 
 pub returns : goal.returns
+unfolding result_as
 returns c =
-    let args = c.args in
-    let loop = c.loop-j in
-    let last : loop.j ≡ args.k = omega (arith, loop.invariant.0, c.loop-j-test.false) in (
-      on_there (λ x. power_of x args.k) args.p c.if-not-fine.false-raw (loop.invariant.1.0 ∙ ap (power_of args.p.cells) last),
-      loop.invariant.1.1,
-    )
+    let last : c.loop.counter ≡ c.args.k = omega arith in
+    c.loop.invariant ∙ ap (power_of c.args.p.now.cells) last

@@ -1,14 +1,9 @@
--- `coefficients::power` meets its contract. The loop's invariant: r is the power j. What the call in the loop needs and ensures is not named here, so
--- that another call is refused for what it says.
-use Prim.Native.Nat.{◌-◌, ◌≤◌}
-use mathlib.Core.Path.{◌≡◌}
+-- `coefficients::power` meets its contract. The loop's invariant: r is the power so far. What the call in the loop needs and ensures is not named here,
+-- so that another call is refused for what it says.
+use Rattle.std.proofs.Common.{◌≡◌}
+use mathlib.Core.Option.{some}
 use Rattle.formula.specs.Meaning.{power_of}
-use Rattle.formula.specs.Polynomial.{Kept}
-use Rattle.coefficients.specs.Result.{result_as}
 use Rattle.coefficients.proofs.power.Given as goal
 
-abbrev pub invariant-loop-j : goal.invariant-loop-j
-invariant-loop-j l = (l.j ≤ l.k) × ((result_as l.r ≡ power_of l.p.cells l.j) × Kept l.r.cells)
-
-abbrev pub decreases-loop-j : goal.decreases-loop-j
-decreases-loop-j l = l.k - l.j
+abbrev pub invariant-loop : goal.invariant-loop
+invariant-loop l = some l.r.cells ≡ power_of l.p.cells l.counter

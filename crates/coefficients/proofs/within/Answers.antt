@@ -1,37 +1,28 @@
--- `coefficients::within` meets its contract. The loop's invariant: the coefficients from coefficient k on decide.
-use mathlib.Core.Path.{refl}
-use native.Mathlib.Omega.{arith}
-use Rattle.coefficients.proofs.Limits.{within_next, within_stops, within_ends}
+-- `coefficients::within` meets its contract.
+use Rattle.std.proofs.Common.{◌≡◌, ◌∙◌, sym, rules, tests, leb, nat_abs}
+use Rattle.std.proofs.lemmas.Iterator.{YieldsList-from_slice}
+use Rattle.std.proofs.lemmas.Iterator.Search.{all_from_yields_List}
+use Rattle.paper.specs.Limits.{coefficient_limit}
+use Rattle.formula.specs.Polynomial.{coefficients_within, within, monomial_count}
+use Rattle.coefficients.specs.Result.{result_as}
+use Rattle.coefficients.proofs.Limits.{all_is_every}
 use Rattle.coefficients.proofs.within.Goals as goal
+use Rattle.coefficients.proofs.within.Goals.{After-all}
 
-pub loop-k-init : goal.loop-k-init
-loop-k-init c = (omega arith, refl)
+tested : (c : After-all) → c.all.result ≡ coefficients_within c.args.cells
+unfolding coefficients_within coefficient_limit
+tested c =
+    all_from_yields_List (λ x. leb (nat_abs x) 1048576) _ _ c.all.result c.all.ensures.ran (YieldsList-from_slice c.args.cells cc) (λ x b q k. search (rules, tests))
+    ∙ all_is_every (λ x. leb (nat_abs x) 1048576) c.args.cells
 
-pub offset_bounds-cells-k : goal.offset_bounds-cells-k
-offset_bounds-cells-k c = omega arith
+pub invariant_of-result : goal.invariant_of-result
+unfolding monomial_count
+invariant_of-result c = record { kept = (search rules, sym (tested (goal.at.invariant_of-result c).After-all) ∙ c.if-all.true) }
 
-pub bounds-cells-k : goal.bounds-cells-k
-bounds-cells-k c = omega arith
+pub returns-then-all : goal.returns-then-all
+unfolding within result_as
+returns-then-all c = rw (sym (tested (goal.at.returns-then-all c).After-all) ∙ c.if-all.true)
 
-pub returns-then-size-gt-COEFFICIENT : goal.returns-then-size-gt-COEFFICIENT
-returns-then-size-gt-COEFFICIENT c =
-    let loop = c.loop-k in
-    within_stops c.requires loop.k (omega arith) c.size.ensures
-    (omega (arith, c.if-size-gt-COEFFICIENT.true)) loop.invariant.1
-
-pub overflow_add-k : goal.overflow_add-k
-overflow_add-k c = omega arith
-
-pub loop-k-smaller : goal.loop-k-smaller
-loop-k-smaller c = omega arith
-
-pub loop-k-preserved : goal.loop-k-preserved
-loop-k-preserved c =
-    let loop = c.loop-k in (
-      omega arith,
-      within_next c.requires loop.k (omega arith) c.size.ensures
-          (omega (arith, c.if-size-gt-COEFFICIENT.false)) loop.invariant.1,
-    )
-
-pub returns : goal.returns
-returns c = within_ends c.requires c.loop-k.k (omega arith) c.loop-k.invariant.1
+pub returns-else-all : goal.returns-else-all
+unfolding within result_as
+returns-else-all c = rw (sym (tested (goal.at.returns-else-all c).After-all) ∙ c.if-all.false)

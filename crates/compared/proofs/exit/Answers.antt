@@ -1,24 +1,17 @@
 -- `compared::exit` meets its contract. The invariant: q is what was kept of the vertices before the k-th.
-use Prim.Native.Nat.{◌-◌}
 use native.Mathlib.Omega.{arith}
 use Rattle.exact.proofs.Position.{skip_le}
 use Rattle.determinants.specs.Cells.{simplex_columns}
-use Rattle.compared.proofs.PairSigns.{Comparing, compare_begin, compare_next, compare_end}
+use Rattle.compared.proofs.PairSigns.{compare_begin, compare_next, compare_end}
 use Rattle.compared.proofs.exit.Goals as goal
-
-pub skip-q-requires : goal.skip-q-requires
-skip-q-requires c = omega arith
 
 pub loop-k-init : goal.loop-k-init
 loop-k-init c =
     let a = c.args in
     compare_begin a.n (simplex_columns a.n a.cells.now) a.plus a.out (omega (arith, c.requires.0.axes.low)) c.skip-q.ensures.0
 
-pub skip-requires : goal.skip-requires
-skip-requires c = omega (arith, c.loop-k-test.true, c.requires.0.axes.high)
-
-pub kept-next-requires : goal.kept-next-requires
-kept-next-requires c =
+pub kept-q-requires : goal.kept-q-requires
+kept-q-requires c =
     let pre = c.requires in
     let k = c.loop-k.k in
     let e = c.skip.ensures.0 in (
@@ -29,17 +22,11 @@ kept-next-requires c =
       ),
     )
 
-pub overflow_add-k : goal.overflow_add-k
-overflow_add-k c = omega (arith, c.loop-k-test.true, c.requires.0.axes.high)
-
-pub loop-k-smaller : goal.loop-k-smaller
-loop-k-smaller c = omega (arith, c.loop-k-test.true)
-
 pub loop-k-preserved : goal.loop-k-preserved
 loop-k-preserved c =
     let a = c.args in
     compare_next a.n (simplex_columns a.n a.cells.now) a.plus a.out c.loop-k-test.true
-    c.loop-k.invariant c.skip.ensures.0 c.kept-next.ensures
+    c.loop-k.invariant c.skip.ensures.0 c.kept-q.ensures
 
 pub returns : goal.returns
 returns c =

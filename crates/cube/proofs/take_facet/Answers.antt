@@ -1,53 +1,31 @@
--- `cube::take_facet` meets its contract. The loop's invariant: the columns of the first k vertices are taken, and each of them is known.
-use Prim.Native.Nat.{◌-◌, ◌≤◌}
+-- `cube::take_facet` meets its contract.
 use native.Mathlib.Omega.{arith}
-use borrow.Author.Tests.{not-true, not-false}
+use mathlib.Core.Path.{◌≡◌, ap}
+use mathlib.Core.List.{List}
+use Prim.Native.Nat.{ℕ}
+use lib.ListN.{get_or}
 use Rattle.cube.proofs.Corners.{corners_few}
-use Rattle.cube.proofs.TakenFacets.{mask_under, Taking, taking_none, taking_next, taking_fails, taking_all}
+use Rattle.cube.proofs.TakenFacets.{mask_of, mask_under, taking_next, taking_fails, taking_all}
 use Rattle.cube.proofs.take_facet.Goals as goal
+use Rattle.cube.proofs.take_facet.Goals.{In-loop-k}
 
-pub loop-k-init : goal.loop-k-init
-loop-k-init c = (omega arith, taking_none c.requires.masks_under.1)
-
-pub mask_at-m-requires : goal.mask_at-m-requires
-mask_at-m-requires c = tt
+mask : (c : In-loop-k) → get_or c.facet_masks-masks.result c.loop-k.k 0 ≡ mask_of c.args.p c.loop-k.k
+mask c = ap (λ (l : List ℕ). get_or l c.loop-k.k 0) c.facet_masks-masks.ensures
 
 pub bounds-known-m : goal.bounds-known-m
 bounds-known-m c =
     let a = c.requires.masks_under.1.axes in
-    omega (arith, c.mask_at-m.ensures, mask_under a c.requires.masks_under.0 c.loop-k.k (omega (arith, c.loop-k-test.true, a.high)), corners_few _ a)
+    omega (arith, mask (goal.at.bounds-known-m c).In-loop-k, mask_under a c.requires.masks_under.0 c.loop-k.k, corners_few _ a)
 
 pub returns-then-not-known-m : goal.returns-then-not-known-m
 returns-then-not-known-m c s one cube =
-    let loop = c.loop-k in
-    taking_fails c.requires.masks_under.1.axes c.requires.masks_under.0 cube loop.k c.loop-k-test.true c.mask_at-m.ensures (not-true _ c.if-not-known-m.true-raw) loop.invariant.1
-
-pub copy_values-requires : goal.copy_values-requires
-copy_values-requires c =
-    let a = c.requires.masks_under.1.axes in
-    let loop = c.loop-k in
-    let under = mask_under a c.requires.masks_under.0 loop.k (omega (arith, c.loop-k-test.true, a.high)) in record {
-      axes = (a, (c.requires.within.0, record { entries = loop.invariant.1.within.entries }));
-      i_in_bounds = (
-        omega (arith, c.mask_at-m.ensures, under, corners_few _ a, c.requires.within.1.0),
-        (omega (arith, c.loop-k-test.true, a.high, loop.invariant.1.within.count), (omega (arith, c.requires.within.1.0), omega (arith, loop.invariant.1.within.count))),
-      );
-    }
-
-pub overflow_add-k : goal.overflow_add-k
-overflow_add-k c = omega (arith, c.loop-k.invariant.0, c.requires.masks_under.1.axes.high)
-
-pub loop-k-smaller : goal.loop-k-smaller
-loop-k-smaller c = omega (arith, c.loop-k-test.true)
+    taking_fails c.requires.masks_under.1.axes c.requires.masks_under.0 cube c.loop-k.k c.loop-k-test.true
+    (mask (goal.at.returns-then-not-known-m c).In-loop-k) c.if-not-known-m.true c.loop-k.invariant
 
 pub loop-k-preserved : goal.loop-k-preserved
 loop-k-preserved c =
-    let loop = c.loop-k in (
-      omega (arith, c.loop-k-test.true),
-      taking_next loop.k c.mask_at-m.ensures (not-false _ c.if-not-known-m.false-raw) loop.invariant.1 c.copy_values.ensures,
-    )
+    taking_next c.loop-k.k (mask (goal.at.loop-k-preserved c).In-loop-k) c.if-not-known-m.false c.loop-k.invariant c.copy_values.ensures
 
 pub returns : goal.returns
 returns c s one cube =
-    let loop = c.loop-k in
-    taking_all c.requires.masks_under.1.axes c.requires.masks_under.0 cube loop.k c.loop-k-test.false loop.invariant.0 loop.invariant.1
+    taking_all c.requires.masks_under.1.axes c.requires.masks_under.0 cube c.loop-k.k c.loop-k-test.false (omega arith) c.loop-k.invariant

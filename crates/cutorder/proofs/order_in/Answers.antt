@@ -1,59 +1,34 @@
--- `cutorder::order_in` meets its contract. The invariant: of the positions before k none is refused, and the first of them with a later one inside it
--- is known. The measure is the number of positions left.
-use Prim.Native.Nat.{◌-◌}
-use native.Mathlib.Omega.{arith}
-use borrow.Author.Rules.{rules}
-use mathlib.Core.Path.{◌≡◌, sym, ap, subst, ◌∙◌}
-use Rattle.paper.specs.Pen.{place_count}
+-- `cutorder::order_in` meets its contract: each position is refused, or adds what it found.
+use Rattle.std.proofs.Common.{◌≡◌, arith, rules}
+use Rattle.std.proofs.lemmas.Result.{err_from_is_err_and}
+use Rattle.paper.specs.Refusals.{answer_by}
+use Rattle.paper.proofs.PlaceLists.{count_is}
 use Rattle.nesting.specs.Answers.{ordered_as}
-use Rattle.positions.specs.Positions.{position_as}
-use Rattle.paper.proofs.PlaceLists.{place_ends, count_is}
-use Rattle.cutorder.proofs.Ordering.{Ordering, ordering_begins, ordering_refused, ordering_on, ordering_broken, ordering_stands}
+use Rattle.positions.proofs.ListedPlaces.{plane}
+use Rattle.cutorder.proofs.Ordering.{ordering_begins, ordering_refused, ordering_on, ordering_ends}
 use Rattle.cutorder.proofs.order_in.Goals as goal
 
 pub loop-k-init : goal.loop-k-init
-loop-k-init c =
+loop-k-init c = ordering_begins _ _
+
+pub returns-in_err-outer : goal.returns-in_err-outer
+unfolding ordered_as answer_by
+returns-in_err-outer c =
     let a = c.args in
-    let is = count_is a.job.now a.places.now c.requires.dimension in
-    (subst (λ m. Ordering a.job.now a.places.now m 0) (sym is) (ordering_begins a.job.now a.places.now), is)
-
-pub at_position-requires : goal.at_position-requires
-at_position-requires c =
-    let a = c.args in
-    (c.requires, place_ends 6 c.loop-k.k a.places.now (omega arith) (omega (arith, c.loop-k-test.true)), c.loop-k.invariant.0.takes)
-
-pub returns-in-Refused : goal.returns-in-Refused
-unfolding position_as ordered_as
-returns-in-Refused c =
-    let a = c.args in
-    let loop = c.loop-k in
-    ordering_refused a.job.now a.places.now loop.invariant.0 (omega (arith, loop.invariant.1, c.loop-k-test.true)) _
-    (ap position_as (sym c.in-Refused.is) ∙ c.at_position.ensures)
-
-pub overflow_add-k : goal.overflow_add-k
-overflow_add-k c = omega (arith, c.loop-k-test.true)
-
-pub loop-k-smaller : goal.loop-k-smaller
-loop-k-smaller c = omega (arith, c.loop-k-test.true)
+    let is = count_is a.job.bytes.now a.places.now (plane c.requires a.job.opened).dimension in
+    let p = err_from_is_err_and c.from_residual.result c.from_residual.ensures.1 in
+    rw (p.1, p.2) (ordering_refused a.job.bytes.now a.places.now c.loop-k.invariant (omega (arith, is, c.loop-k-test.true)) _ c.in_err-outer.ensures)
 
 pub loop-k-preserved : goal.loop-k-preserved
-unfolding position_as
 loop-k-preserved c =
     let a = c.args in
-    let loop = c.loop-k in (
-      ordering_on a.job.now a.places.now loop.invariant.0 (omega (arith, loop.invariant.1, c.loop-k-test.true))
-          (ap position_as (sym c.in-Outer.is) ∙ c.at_position.ensures) c.earlier-first.ensures,
-      loop.invariant.1,
-    )
-
-pub returns-then-first-count : goal.returns-then-first-count
-unfolding ordered_as
-returns-then-first-count c =
-    let loop = c.loop-k in
-    ordering_broken _ _ loop.invariant.0 (omega (arith, loop.invariant.1, c.loop-k-test.false)) (omega (arith, loop.invariant.1, c.if-first-count.true))
+    let is = count_is a.job.bytes.now a.places.now (plane c.requires a.job.opened).dimension in
+    ordering_on a.job.bytes.now a.places.now c.loop-k.invariant (omega (arith, is, c.loop-k-test.true)) c.in_ok-outer.ensures c.earlier-first.ensures
 
 pub returns : goal.returns
-unfolding ordered_as
+unfolding ordered_as answer_by
 returns c =
-    let loop = c.loop-k in
-    ordering_stands _ _ loop.invariant.0 (omega (arith, loop.invariant.1, c.loop-k-test.false)) (omega (arith, loop.invariant.1, c.if-first-count.false))
+    let a = c.args in
+    let is = count_is a.job.bytes.now a.places.now (plane c.requires a.job.opened).dimension in
+    let same : c.map.result ≡ c.loop-k.first = search rules in
+    rw (same) (ordering_ends a.job.bytes.now a.places.now c.loop-k.invariant (omega (arith, is, c.loop-k-test.false)))

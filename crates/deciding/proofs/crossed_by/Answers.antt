@@ -1,40 +1,19 @@
--- `deciding::crossed_by` meets its contract: a power for each vertex of the dimension.
-use native.Mathlib.Omega.{arith}
-use Rattle.grounds.specs.Judged.{judged_by_as}
-use Rattle.deciding.proofs.Powers.{two_powers, three_powers, four_powers}
+-- `deciding::crossed_by` meets its contract. The invariant: the powers of the vertices before i are put in.
+use Rattle.std.proofs.Common.{ℕ, ◌≡◌, ◌≢◌, ◌+◌, ◌<◌, length, arith, ap, ◌∙◌, get_or-set_other, get_or-set_same, length-set, below_more, zero-add}
+use Rattle.grounds.specs.Ground.{deciding_power}
+use Rattle.determinants.specs.Cells.{facet_columns}
+use Rattle.deciding.proofs.Powers.{taken}
 use Rattle.deciding.proofs.crossed_by.Goals as goal
 
-pub deciding_power-power0-requires : goal.deciding_power-power0-requires
-deciding_power-power0-requires c = record { cells = c.requires; i_lt_n = omega (arith, c.requires.axes.low) }
-
-pub deciding_power-power1-requires : goal.deciding_power-power1-requires
-deciding_power-power1-requires c = record { cells = c.requires; i_lt_n = omega (arith, c.requires.axes.low) }
-
-pub returns-then-n-eq2 : goal.returns-then-n-eq2
-unfolding judged_by_as
-returns-then-n-eq2 c = two_powers _ _ c.deciding_power-power0.ensures c.deciding_power-power1.ensures c.if-n-eq2.true
-
-pub deciding_power-power2-requires : goal.deciding_power-power2-requires
-deciding_power-power2-requires c = record { cells = c.requires; i_lt_n = omega (arith, c.if-n-eq2.false, c.requires.axes.low) }
-
-pub returns-then-n-eq3 : goal.returns-then-n-eq3
-unfolding judged_by_as
-returns-then-n-eq3 c =
-    three_powers _ _
-    c.deciding_power-power0.ensures
-    c.deciding_power-power1.ensures
-    c.deciding_power-power2.ensures
-    c.if-n-eq3.true
-
-pub deciding_power-power3-requires : goal.deciding_power-power3-requires
-deciding_power-power3-requires c = record { cells = c.requires; i_lt_n = omega (arith, c.if-n-eq3.false, c.if-n-eq2.false, c.requires.axes.low) }
+pub loop-i-preserved : goal.loop-i-preserved
+loop-i-preserved c = (
+  length-set _ _ _ ∙ c.loop-i.invariant.0,
+  below_more _ _
+      (λ k h. let ne : k ≢ c.loop-i.i = omega arith in rw get_or-set_other (c.loop-i.invariant.1 k h))
+      (let lt : c.loop-i.i < length c.loop-i.powers = omega (arith, c.loop-i.invariant.0, c.requires.axes.high) in rw get_or-set_same c.deciding_power.ensures),
+)
 
 pub returns : goal.returns
-unfolding judged_by_as
 returns c =
-    four_powers _ _
-    c.deciding_power-power0.ensures
-    c.deciding_power-power1.ensures
-    c.deciding_power-power2.ensures
-    c.deciding_power-power3.ensures
-    (omega (arith, c.if-n-eq3.false, c.if-n-eq2.false, c.requires.axes.low, c.requires.axes.high))
+    taken (deciding_power c.args.n (facet_columns c.args.n c.args.cells.now c.args.n)) 0 c.args.n c.loop-i.powers
+    (omega (arith, c.loop-i.invariant.0, c.requires.axes.high)) (λ k h. let same : k ≡ 0 + k = omega arith in c.loop-i.invariant.1 k (omega arith) ∙ ap (deciding_power c.args.n (facet_columns c.args.n c.args.cells.now c.args.n)) same)

@@ -1,41 +1,41 @@
 -- `deciding::ground` meets its contract: what is returned is a ground that holds and names the first vertex, and there is only one.
-use mathlib.Core.Path.{◌≡◌, sym, ap, ◌∙◌}
-use native.Mathlib.Omega.{arith}
-use lib.Dec.{lit≤}
-use Rattle.exact.specs.Sign.{sign}
+use Rattle.std.proofs.Common.{◌≡◌, Bool, sym, ap, ◌∙◌, lit≤}
+use Rattle.std.specs.declared.cmp.Ordering.TheVariants.{Equal}
+use Rattle.exact.specs.Sign.{nought, sign, same_sign}
 use Rattle.exact.specs.Det.{determinant}
-use Rattle.exact.proofs.Bits.{holds_call}
-use Rattle.grounds.specs.Judged.{judged_by_as}
+use Rattle.exact.proofs.LexSign.{same_sign_sound}
+use Rattle.grounds.specs.Ground.{all_with}
+use Rattle.grounds.specs.Judged.{named_as}
 use Rattle.determinants.specs.Cells.{facet_columns}
-use Rattle.facets.specs.Signs.{sign_number}
-use Rattle.facets.proofs.SignNumber.{zero_number}
-use Rattle.deciding.proofs.Powers.{zero_ground, against_ground, with_ground}
+use Rattle.facets.specs.Signs.{sign_as}
+use Rattle.facets.proofs.SignOrder.{order_tested, sign_is, nought_order}
+use Rattle.deciding.proofs.Powers.{not_zero, zero_ground, against_ground, with_ground}
 use Rattle.deciding.proofs.ground.Goals as goal
-use Rattle.deciding.proofs.ground.Goals.{After-sign_of-side}
+use Rattle.deciding.proofs.ground.Goals.{After-eq}
 
--- `side` is the number of D's sign
-side_is :
-    (c : After-sign_of-side)
-    →
-    c.sign_of-side.result
-    ≡ sign_number (sign (determinant c.args.n (facet_columns c.args.n c.args.cells.now c.args.n)))
-side_is c = c.sign_of-side.ensures ∙ ap (λ z. sign_number (sign z)) (holds_call c.determinant.ensures (lit≤ tt)).is
+-- `side` is D's sign, and the test is whether that is nought
+side : (c : After-eq) → sign_as c.sign_of-side.result ≡ sign (determinant c.args.n (facet_columns c.args.n c.args.cells.now c.args.n))
+side c = sign_is c.sign_of-side.result c.sign_of-side.ensures c.determinant.ensures (lit≤ tt)
 
-pub returns-then-side-eq0 : goal.returns-then-side-eq0
-unfolding judged_by_as
-returns-then-side-eq0 c = zero_ground _ _ (sym (side_is (goal.at.returns-then-side-eq0 c).After-sign_of-side) ∙ c.if-side-eq0.true)
+tested : (c : After-eq) → c.eq.result ≡ same_sign (sign (determinant c.args.n (facet_columns c.args.n c.args.cells.now c.args.n))) nought
+tested c = order_tested c.sign_of-side.result Equal c.eq.ensures (side c) nought_order
 
-pub first_against-i-requires : goal.first_against-i-requires
-first_against-i-requires c =
-    record { cells = c.requires; n_nonzero = (λ z. c.if-side-eq0.false (side_is (goal.at.first_against-i-requires c).After-sign_of-side ∙ zero_number _ z)); side_value = side_is (goal.at.first_against-i-requires c).After-sign_of-side }
+pub returns-then-eq : goal.returns-then-eq
+unfolding named_as
+returns-then-eq c =
+    zero_ground _ _ (same_sign_sound _ _ (sym (tested (goal.at.returns-then-eq c).After-eq) ∙ c.if-eq.true))
 
-pub returns-then-i-n : goal.returns-then-i-n
-unfolding judged_by_as
-returns-then-i-n c =
-    against_ground _ _ c.first_against-i.ensures
-    (omega (arith, c.if-i-n.true, c.requires.axes.low)) c.deciding_power.ensures
+pub first_against-requires : goal.first_against-requires
+first_against-requires c =
+    let at = (goal.at.first_against-requires c).After-eq in
+    record { cells = c.requires; n_nonzero = not_zero _ (sym (tested at) ∙ c.if-eq.false); side_value = side at }
 
-pub returns : goal.returns
-returns c =
-    c.crossed_by.ensures
-    ∙ with_ground _ _ (λ z. c.if-side-eq0.false (side_is (goal.at.returns c).After-sign_of-side ∙ zero_number _ z)) c.first_against-i.ensures (omega (arith, c.if-i-n.false))
+pub returns-in-Some : goal.returns-in-Some
+unfolding named_as
+returns-in-Some c = against_ground _ _ c.in-Some.ensures c.deciding_power.ensures
+
+pub returns-in-None : goal.returns-in-None
+unfolding named_as
+returns-in-None c =
+    ap all_with c.crossed_by.ensures
+    ∙ with_ground _ _ (not_zero _ (sym (tested (goal.at.returns-in-None c).After-eq) ∙ c.if-eq.false)) c.in-None.ensures

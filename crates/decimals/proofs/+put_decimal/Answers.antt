@@ -16,13 +16,13 @@ returns-then-a-lt10 t c =
     (decimal_short c.args.a)
     c.put_byte.ensures
 
-pub put_byte-requires-2 : goal.put_byte-requires-2
-put_byte-requires-2 t c = omega (arith, decimal_tenth_short c.args.a (omega arith) (omega arith), c.put_decimal-last.ensures)
+pub put_byte-requires-else-a-lt10 : goal.put_byte-requires-else-a-lt10
+put_byte-requires-else-a-lt10 t c = omega (arith, decimal_tenth_short c.args.a (omega arith) (omega arith), c.put_decimal-last.ensures)
 
-pub returns : goal.returns
-returns t c =
+pub returns-else-a-lt10 : goal.returns-else-a-lt10
+returns-else-a-lt10 t c =
     writes_within
-    (ap (λ (x : ℕ). decimal (c.args.a / 10) ++ (x ∷ [])) c.digit-2.ensures
+    (ap (λ (x : ℕ). decimal (c.args.a / 10) ++ (x ∷ [])) c.digit-else-a-lt10.ensures
     ∙ sym (decimal_digits c.args.a (omega arith) (omega arith)))
     (decimal_short c.args.a)
-    (writes_then (omega arith) c.put_decimal-last.ensures (λ i. c.put_byte-2.ensures))
+    (writes_then (omega arith) c.put_decimal-last.ensures (λ i. c.put_byte-else-a-lt10.ensures))

@@ -1,24 +1,26 @@
--- `language::after_digit` meets its contract: its tests are those of the definition.
-use native.Mathlib.Omega.{arith}
-use Rattle.language.proofs.DigitLaws.{exponent_read, number_begins, no_number, number_goes_on, number_full}
+-- `language::after_digit` meets its contract, mode by mode.
+use mathlib.Core.Path.{refl}
+use mathlib.Core.Logic.{⊎_elim}
+use lib.Dec.{leb}
+use Rattle.language.specs.declared.Mode.TheVariants.{PowerRead}
+use Rattle.language.specs.Pass.{after_digit, outside_mode, exponent_next, expects_atom, atom_next, sum_next, power_read, atom_read, digits_read, only}
+use Rattle.language.proofs.ModeLaws.{allowed, digits_go_on, digits_full}
 use Rattle.language.proofs.after_digit.Goals as goal
 
-pub returns-then-mode-digit : goal.returns-then-mode-digit
-returns-then-mode-digit c = exponent_read _ _ c.if-mode-digit.true
+pub returns-in-ExponentNext : goal.returns-in-ExponentNext
+unfolding after_digit outside_mode exponent_next expects_atom atom_next sum_next digits_read only
+returns-in-ExponentNext c = rw c.in-ExponentNext.is (allowed (leb c.args.digit 4) PowerRead c.then_some.ensures refl)
 
-pub returns-then-mode : goal.returns-then-mode
-returns-then-mode c = number_begins _ _ c.if-mode-digit.false c.if-mode.true
+pub returns-in-AtomNext : goal.returns-in-AtomNext
+unfolding after_digit exponent_next expects_atom atom_next sum_next
+returns-in-AtomNext c = ⊎_elim (λ e. rw e refl) (λ e. rw e refl) c.in-AtomNext.is
 
-pub returns-then-mode-lt-DIGITS_READ : goal.returns-then-mode-lt-DIGITS_READ
-returns-then-mode-lt-DIGITS_READ c = no_number _ _ c.if-mode-digit.false c.if-mode.false (omega (arith, c.if-mode-lt-DIGITS_READ.true))
+pub returns-then-k-lt-MOST_DIGITS : goal.returns-then-k-lt-MOST_DIGITS
+returns-then-k-lt-MOST_DIGITS c = rw c.in-DigitsRead.is (digits_go_on c.in-DigitsRead.k c.args.digit c.if-k-lt-MOST_DIGITS.true)
 
-pub overflow_add-result-then-mode-2 : goal.overflow_add-result-then-mode-2
-overflow_add-result-then-mode-2 c = omega arith
+pub returns-else-k-lt-MOST_DIGITS : goal.returns-else-k-lt-MOST_DIGITS
+returns-else-k-lt-MOST_DIGITS c = rw c.in-DigitsRead.is (digits_full c.in-DigitsRead.k c.args.digit c.if-k-lt-MOST_DIGITS.false)
 
-pub returns-then-mode-2 : goal.returns-then-mode-2
-returns-then-mode-2 c =
-    number_goes_on _ _ c.if-mode-digit.false c.if-mode.false (omega (arith, c.if-mode-lt-DIGITS_READ.false)) (omega (arith, c.if-mode-2.true))
-
-pub returns : goal.returns
-returns c =
-    number_full _ _ c.if-mode-digit.false c.if-mode.false (omega (arith, c.if-mode-2.false))
+pub returns-in-PowerRead : goal.returns-in-PowerRead
+unfolding after_digit outside_mode exponent_next expects_atom atom_next sum_next power_read atom_read digits_read only
+returns-in-PowerRead c = ⊎_elim (λ e. rw e refl) (λ e. rw e refl) c.in-PowerRead.is

@@ -1,31 +1,7 @@
--- `language::is_letter` meets its contract: each letter by its byte.
-use mathlib.Core.Path.{refl}
-use borrow.Author.Tests.{ne_eqb}
-use Rattle.formula.specs.Grammar.{axis_of, is_letter}
+-- `language::is_letter` meets its contract: a letter's axis is one of the dimension.
+use native.Mathlib.Omega.{arith}
+use Rattle.language.proofs.TokenLaws.{no_letter}
 use Rattle.language.proofs.is_letter.Goals as goal
 
-pub returns-then-b-eq120 : goal.returns-then-b-eq120
-unfolding is_letter axis_of
-returns-then-b-eq120 c = rw c.if-b-eq120.true refl
-
-pub returns-then-b-eq121 : goal.returns-then-b-eq121
-unfolding is_letter axis_of
-returns-then-b-eq121 c = rw c.if-b-eq121.true refl
-
-pub returns-then-b-eq122 : goal.returns-then-b-eq122
-unfolding is_letter axis_of
-returns-then-b-eq122 c = rw c.if-b-eq122.true refl
-
-pub returns-then-b-eq119 : goal.returns-then-b-eq119
-unfolding is_letter axis_of
-returns-then-b-eq119 c = rw c.if-b-eq119.true refl
-
-pub returns : goal.returns
-unfolding is_letter
-returns c =
-    rw (
-      ne_eqb _ 120 c.if-b-eq120.false,
-      ne_eqb _ 121 c.if-b-eq121.false,
-      ne_eqb _ 122 c.if-b-eq122.false,
-      ne_eqb _ 119 c.if-b-eq119.false,
-    )
+pub returns-in_default : goal.returns-in_default
+returns-in_default c = no_letter c.args.n c.args.b (λ e. omega arith) (λ e. omega arith) (λ e. omega arith) (λ e. omega arith)

@@ -1,40 +1,53 @@
--- `language::next_mode` meets its contract: what the byte is, and whether it may stand at this mode.
-use native.Mathlib.Omega.{arith}
-use Rattle.language.proofs.ModeLaws.{digit_least, mode_digit, mode_letter, mode_opening, mode_too_deep, mode_closing, mode_star, mode_plus}
-use Rattle.language.proofs.ModeLaws.{mode_minus, mode_caret, mode_nowhere}
+-- `language::next_mode` meets its contract, token by token.
+use mathlib.Core.Path.{◌≡◌, sym, ◌∙◌}
+use mathlib.Core.Bool.{◌&&◌}
+use mathlib.Core.Logic.{⊎_elim}
+use lib.Dec.{leb, ltb}
+use Rattle.language.specs.declared.Mode.TheVariants.{ExponentNext, AtomNext, SumNext, AtomRead}
+use Rattle.language.specs.Pass.{next_mode, expects_atom, sum_next, power_read, atom_read}
+use Rattle.language.specs.Modes.{mode_number}
+use Rattle.language.proofs.ModeLaws.{allowed, both_tested, first_fails}
 use Rattle.language.proofs.next_mode.Goals as goal
+use Rattle.language.proofs.next_mode.Goals.{then-expects_atom, else-expects_atom, then-ends_power, else-ends_power}
 
-pub overflow_sub-b : goal.overflow_sub-b
-overflow_sub-b c = digit_least _ c.if-b.true
+pub returns-in-Letter : goal.returns-in-Letter
+unfolding next_mode
+returns-in-Letter c b = rw c.in-Letter.is (allowed (expects_atom (mode_number c.args.mode)) AtomRead c.then_some.ensures c.expects_atom.ensures)
 
-pub returns-then-b : goal.returns-then-b
-returns-then-b c = mode_digit _ _ _ _ _ c.if-b.true c.after_digit.ensures
+pub returns-after-expects_atom : goal.returns-after-expects_atom
+unfolding next_mode
+returns-after-expects_atom c b =
+    let a = expects_atom (mode_number c.args.mode) in
+    let room = ltb c.args.depth c.args.limit in
+    let both : c.if-expects_atom.then_some ≡ (a && room) =
+    elim c.if-expects_atom.branch [
+      | then-expects_atom w ↦ both_tested a room (sym w.if-expects_atom.ensures) w.then_some-is
+      | else-expects_atom w ↦ first_fails a room (sym w.if-expects_atom.ensures) (w.then_some-is ∙ w.if-expects_atom.false)
+    ] in
+    rw c.in-Opening.is (allowed (a && room) SumNext c.then_some-in-Opening.ensures both)
 
-pub returns-then-is_letter-before_atom : goal.returns-then-is_letter-before_atom
-returns-then-is_letter-before_atom c = mode_letter _ _ _ _ _ c.if-b.false c.is_letter.ensures c.if-is_letter-before_atom.true
+pub returns-after-ends_power : goal.returns-after-ends_power
+unfolding next_mode
+returns-after-ends_power c b =
+    let a = leb power_read (mode_number c.args.mode) in
+    let opened = ltb 0 c.args.depth in
+    let both : c.if-ends_power.then_some ≡ (a && opened) =
+    elim c.if-ends_power.branch [
+      | then-ends_power w ↦ both_tested a opened (sym w.if-ends_power.ensures) w.then_some-is
+      | else-ends_power w ↦ first_fails a opened (sym w.if-ends_power.ensures) (w.then_some-is ∙ w.if-ends_power.false)
+    ] in
+    rw c.in-Closing.is (allowed (a && opened) AtomRead c.then_some-in-Closing.ensures both)
 
-pub returns-then-depth-limit : goal.returns-then-depth-limit
-returns-then-depth-limit c = mode_opening _ _ _ _ _ c.if-b-before_atom.true (omega (arith, c.if-depth-limit.true))
+pub returns-in-Minus : goal.returns-in-Minus
+unfolding next_mode
+returns-in-Minus c b = rw c.in-Minus.is (allowed (leb sum_next (mode_number c.args.mode)) AtomNext c.then_some-in-Minus.ensures c.takes_minus.ensures)
 
-pub returns-then-b-before_atom : goal.returns-then-b-before_atom
-returns-then-b-before_atom c = mode_too_deep _ _ _ _ _ c.if-b-before_atom.true (omega (arith, c.if-depth-limit.false))
+pub returns-in-Caret : goal.returns-in-Caret
+unfolding next_mode
+returns-in-Caret c b = rw c.in-Caret.is (allowed (leb atom_read (mode_number c.args.mode)) ExponentNext c.then_some-in-Caret.ensures c.ends_atom.ensures)
 
-pub returns-then-b-behind_power : goal.returns-then-b-behind_power
-returns-then-b-behind_power c = mode_closing _ _ _ _ _ c.if-b-behind_power.true
-
-pub returns-then-b-behind_power-2 : goal.returns-then-b-behind_power-2
-returns-then-b-behind_power-2 c = mode_star _ _ _ _ _ c.if-b-behind_power-2.true
-
-pub returns-then-b-behind_power-3 : goal.returns-then-b-behind_power-3
-returns-then-b-behind_power-3 c = mode_plus _ _ _ _ _ c.if-b-behind_power-3.true
-
-pub returns-then-b-mode : goal.returns-then-b-mode
-returns-then-b-mode c = mode_minus _ _ _ _ _ c.if-b-mode.true
-
-pub returns-then-b-mode-2 : goal.returns-then-b-mode-2
-returns-then-b-mode-2 c = mode_caret _ _ _ _ _ c.if-b-mode-2.true
-
-pub returns : goal.returns
-returns c =
-    mode_nowhere _ _ _ _ _ c.is_letter.ensures c.if-b.false c.if-is_letter-before_atom.false
-    c.if-b-before_atom.false c.if-b-behind_power.false c.if-b-behind_power-2.false c.if-b-behind_power-3.false c.if-b-mode.false c.if-b-mode-2.false
+pub returns-in-Star : goal.returns-in-Star
+unfolding next_mode
+returns-in-Star c b =
+    let next = allowed (leb power_read (mode_number c.args.mode)) AtomNext c.then_some-in-Star.ensures c.ends_power-in-Star.ensures in
+    ⊎_elim (λ e. rw e next) (λ e. rw e next) c.in-Star.is

@@ -1,27 +1,29 @@
 -- `language::passes` meets its contract. The invariant: from the mode and the depth that the code has, the pass over the bytes that are left answers
 -- as the reader does on the whole text.
-use native.Mathlib.Omega.{arith}
-use Rattle.language.specs.Pass.{sum_next, power_read}
-use Rattle.language.proofs.PassLaws.{pass_starts, pass_next, pass_ends}
+use mathlib.Core.Path.{ap, ◌∙◌}
+use Rattle.language.specs.Pass.{next_mode, next_depth}
+use Rattle.language.specs.Modes.{mode_number}
+use Rattle.language.proofs.PassLaws.{pass_starts, pass_next, pass_outside, pass_ends_power, pass_ends_short}
 use Rattle.language.proofs.passes.Goals as goal
 
-pub loop-i-init : goal.loop-i-init
-unfolding sum_next
-loop-i-init c = pass_starts _ _ _
+pub loop-b-init : goal.loop-b-init
+loop-b-init c = pass_starts _ _ _
 
-pub bounds-text-i : goal.bounds-text-i
-bounds-text-i c = omega arith
+pub returns-in_default : goal.returns-in_default
+returns-in_default c =
+    let loop = c.loop-b in
+    pass_outside loop.invariant c.loop-b-test.true
+    (c.in_default.ensures _ ∙ ap (next_mode c.args.limit loop.depth (mode_number loop.mode)) c.token_of-token.ensures)
 
-pub overflow_add-i : goal.overflow_add-i
-overflow_add-i c = omega arith
+pub loop-b-preserved : goal.loop-b-preserved
+loop-b-preserved c =
+    let loop = c.loop-b in
+    pass_next loop.invariant c.loop-b-test.true
+    (c.in-Some.ensures _ ∙ ap (next_mode c.args.limit loop.depth (mode_number loop.mode)) c.token_of-token.ensures)
+    (c.next_depth-depth.ensures _ ∙ ap (next_depth c.args.limit loop.depth) c.token_of-token.ensures)
 
-pub loop-i-smaller : goal.loop-i-smaller
-loop-i-smaller c = omega arith
+pub returns-then-ends_power : goal.returns-then-ends_power
+returns-then-ends_power c = pass_ends_power c.loop-b.invariant c.ends_power.ensures c.loop-b-test.false c.if-ends_power.true
 
-pub loop-i-preserved : goal.loop-i-preserved
-loop-i-preserved c =
-    pass_next c.loop-i.invariant (omega (arith, c.loop-i-test.true)) c.next_mode-mode.ensures (c.next_depth-depth.ensures _)
-
-pub returns : goal.returns
-unfolding power_read
-returns c = pass_ends c.loop-i.invariant (omega (arith, c.loop-i-test.false))
+pub returns-else-ends_power : goal.returns-else-ends_power
+returns-else-ends_power c = pass_ends_short c.loop-b.invariant c.ends_power.ensures c.loop-b-test.false c.if-ends_power.false

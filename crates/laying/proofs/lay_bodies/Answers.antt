@@ -13,15 +13,6 @@ pub loop-k-init : goal.loop-k-init
 unfolding bodies_of
 loop-k-init c = (omega arith, laid_none _ _)
 
-pub overflow_add-n : goal.overflow_add-n
-overflow_add-n c = record { fits = omega (arith, c.requires.0) }
-
-pub offset_bounds-bodies-k : goal.offset_bounds-bodies-k
-offset_bounds-bodies-k c = record { fits = omega (arith, c.requires.0, c.loop-k-test.true) }
-
-pub bounds-bodies-k : goal.bounds-bodies-k
-bounds-bodies-k c = omega (arith, c.requires.0, c.loop-k-test.true)
-
 pub lay_body-next-requires : goal.lay_body-next-requires
 lay_body-next-requires c =
     let f = body_at c.args.bodies in
@@ -29,12 +20,6 @@ lay_body-next-requires c =
     let read = ap length (body_read c.args.bodies k) in
     let laid = c.loop-k.invariant.1 in
     omega (arith, c.requires.1, laid.position, laid_long laid, read, body_room f k (c.args.n + 1) c.loop-k-test.true)
-
-pub overflow_add-k : goal.overflow_add-k
-overflow_add-k c = record { fits = omega (arith, c.requires.0, c.loop-k-test.true) }
-
-pub loop-k-smaller : goal.loop-k-smaller
-loop-k-smaller c = omega (arith, c.loop-k-test.true)
 
 pub loop-k-preserved : goal.loop-k-preserved
 loop-k-preserved c =

@@ -1,44 +1,39 @@
 -- `laying::lay_contents` meets its contract: four bytes, then the entries.
-use Prim.Native.Nat.{◌+◌, ◌*◌, ◌≤◌}
-use native.Mathlib.Omega.{arith}
-use mathlib.Core.Path.{refl, ◌∙◌}
-use lib.ListN.{length, length-set}
+use Rattle.std.proofs.Common.{refl, ◌∙◌, ◌-◌, ℕ, List, [], ◌∷◌, ◌+◌, ◌*◌, ◌≤◌, length, arith}
+use borrow.Rule.Slice.PartMut.{put_mid}
 use Rattle.paper.specs.Job.{contents_end}
-use Rattle.assembly.specs.Assembled.{bodies_of, contents_of}
+use Rattle.assembly.specs.Assembled.{bodies_of, contents_of, job_from}
 use Rattle.assembly.proofs.Lengths.{job_length}
-use Rattle.laying.specs.Laid.{body_at}
-use Rattle.laying.proofs.Behind.{laid_behind, laid_long, four_laid}
+use Rattle.laying.specs.Laid.{Laid}
+use Rattle.laying.proofs.Behind.{laid_behind, laid_long, part_laid}
 use Rattle.laying.proofs.lay_contents.Goals as goal
-use Rattle.laying.proofs.lay_contents.Goals.{Start}
+use Rattle.laying.proofs.lay_contents.Goals.{After-copy_from_slice}
 
-job_room_lem : (c : Start)
-    → c.args.at + (4 * c.args.n + 8 + length (bodies_of (body_at c.args.bodies) 0 (c.args.n + 1))) ≤ length c.args.buffer.now
+-- there is room for the contents and the bodies
+job_room : (n bias at : ℕ) (f : ℕ → List ℕ) (b : List ℕ) → at + length (job_from n bias f) ≤ length b
+    → at + (4 * n + 8 + length (bodies_of f 0 (n + 1))) ≤ length b
 unfolding contents_end
-job_room_lem c = omega (arith, c.requires.1, job_length c.args.n c.args.bias (body_at c.args.bodies))
+job_room n bias at f b l = omega (arith, job_length n bias f)
 
-pub bounds-buffer-at : goal.bounds-buffer-at
-bounds-buffer-at c = omega (arith, job_room_lem (goal.at.bounds-buffer-at c).Start)
+-- the first four bytes
+head : (c : After-copy_from_slice)
+    → Laid c.args.buffer.now c.args.at (1 ∷ c.args.n ∷ (c.args.n + 1) ∷ c.args.bias ∷ [])
+    (put_mid c.args.at (c.args.at + 4 - c.args.at) c.args.buffer.now c.copy_from_slice.new.self) (c.args.at + 4)
+head c = part_laid c.args.buffer.now c.args.at c.copy_from_slice.ensures.after (omega arith) refl (omega (arith, job_room _ _ _ _ _ c.requires.1))
 
-pub bounds-buffer-at-2 : goal.bounds-buffer-at-2
-bounds-buffer-at-2 c = simp length-set (omega (arith, job_room_lem (goal.at.bounds-buffer-at-2 c).Start))
-
-pub bounds-buffer-at-3 : goal.bounds-buffer-at-3
-bounds-buffer-at-3 c = simp length-set (omega (arith, job_room_lem (goal.at.bounds-buffer-at-3 c).Start))
-
-pub bounds-buffer-at-4 : goal.bounds-buffer-at-4
-bounds-buffer-at-4 c = simp length-set (omega (arith, job_room_lem (goal.at.bounds-buffer-at-4 c).Start))
+pub slice_bounds-copy_from_slice-end : goal.slice_bounds-copy_from_slice-end
+slice_bounds-copy_from_slice-end c = omega (arith, job_room _ _ _ _ _ c.requires.1)
 
 pub lay_entries-requires : goal.lay_entries-requires
 unfolding contents_end
 lay_entries-requires c =
-    let room = job_room_lem (goal.at.lay_entries-requires c).Start in
-    (c.requires.0, simp length-set (omega (arith, room)), simp length-set (omega (arith, room)))
+    let room = job_room _ _ _ _ _ c.requires.1 in
+    let long = laid_long (head (goal.at.lay_entries-requires c).After-copy_from_slice) in
+    (c.requires.0, omega (arith, room, long), omega (arith, room, long))
 
 pub shape_of-buffer : goal.shape_of-buffer
-shape_of-buffer c = laid_long c.lay_entries.ensures ∙ simp length-set refl
+shape_of-buffer c = laid_long c.lay_entries.ensures ∙ laid_long (head (goal.at.shape_of-buffer c).After-copy_from_slice)
 
 pub returns : goal.returns
 unfolding contents_of
-returns c =
-    let first = four_laid c.args.buffer.now c.args.at 1 c.args.n (c.args.n + 1) c.args.bias in
-    laid_behind first c.lay_entries.ensures
+returns c = laid_behind (head (goal.at.returns c).After-copy_from_slice) c.lay_entries.ensures

@@ -28,24 +28,9 @@ entries-more {offset = offset} {k = k} {f = f} p g q t w = record {
   laid = entry_more f k _ offset p.begins g p.laid q t;
 }
 
-pub overflow_mul-offset : goal.overflow_mul-offset
-overflow_mul-offset c = record { fits = omega (arith, c.requires.0) }
-
-pub overflow_add-offset : goal.overflow_add-offset
-overflow_add-offset c = record { fits = omega (arith, c.requires.0) }
-
 pub loop-k-init : goal.loop-k-init
 unfolding contents_end bodies_of entries_of
 loop-k-init c = record { within = omega arith; begins = omega arith; laid = laid_none _ _ }
-
-pub overflow_add-n : goal.overflow_add-n
-overflow_add-n c = record { fits = omega (arith, c.requires.0) }
-
-pub offset_bounds-bodies-k : goal.offset_bounds-bodies-k
-offset_bounds-bodies-k c = record { fits = omega (arith, c.requires.0, c.loop-k-test.true) }
-
-pub bounds-bodies-k : goal.bounds-bodies-k
-bounds-bodies-k c = omega (arith, c.requires.0, c.loop-k-test.true)
 
 pub lay_word-middle-requires : goal.lay_word-middle-requires
 lay_word-middle-requires c =
@@ -66,12 +51,6 @@ overflow_add-offset-in-loop-k c =
     let inv = c.loop-k.invariant in
     let room = body_room (body_at bodies) k (c.args.n + 1) c.loop-k-test.true in
     record { fits = omega (arith, room, inv.begins, ap length (body_read bodies k), c.requires.2, c.well_formed.0.0) }
-
-pub overflow_add-k : goal.overflow_add-k
-overflow_add-k c = record { fits = omega (arith, c.requires.0, c.loop-k-test.true) }
-
-pub loop-k-smaller : goal.loop-k-smaller
-loop-k-smaller c = omega (arith, c.loop-k-test.true)
 
 pub loop-k-preserved : goal.loop-k-preserved
 loop-k-preserved c =

@@ -1,5 +1,5 @@
 -- `laying::lay_entries` meets its contract: after k turns the first k entries are laid, and the offset is where body k begins.
-use Prim.Native.Nat.{ℕ, ◌+◌, ◌-◌, ◌≤◌}
+use Prim.Native.Nat.{ℕ, ◌+◌, ◌≤◌}
 use mathlib.Core.Path.{◌≡◌}
 use mathlib.Core.List.{List}
 use lib.ListN.{length}
@@ -15,6 +15,3 @@ pub record EntriesLaid (before : List ℕ) (at n : ℕ) (f : ℕ → List ℕ) (
 
 abbrev pub invariant-loop-k : goal.invariant-loop-k
 invariant-loop-k l = EntriesLaid l.initial.buffer l.at l.n (body_at l.bodies) l.buffer l.next l.offset l.k
-
-abbrev pub decreases-loop-k : goal.decreases-loop-k
-decreases-loop-k l = l.n + 1 - l.k

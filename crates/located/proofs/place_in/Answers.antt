@@ -1,70 +1,49 @@
 -- `located::place_in` meets its contract: 13 at each of the two tests of the place's form, then what its facet's values say.
-use lib.Dec.{lit≤}
-use mathlib.Core.Path.{◌≡◌, sym, ◌∙◌}
-use mathlib.Core.Bool.{Bool, true, false}
-use mathlib.Core.List.{List}
-use Prim.Native.Nat.{ℕ}
-use borrow.Author.Tests.{not-true, not-false}
+use Rattle.std.proofs.Common.{◌≡◌, ℕ, true, sym, ◌∙◌, lit≤}
 use Rattle.curves.specs.Grid.{place_ok}
 use Rattle.paper.specs.Job.{decode_place}
+use Rattle.paper.specs.Refusals.{refusal_number}
 use Rattle.lattice.specs.Moves.{move_limit}
 use Rattle.lattice.proofs.Moves.{vertex_wider}
+use Rattle.located.proofs.Passed.{passed_on}
 use Rattle.located.proofs.PlaceForm.{wrong_length, wrong_form}
-use Rattle.located.proofs.PlaceFound.{place_refused, facet_refused, place_found}
+use Rattle.located.proofs.PlaceFound.{place_refused, facet_number, place_found}
 use Rattle.located.proofs.place_in.Goals as goal
-use Rattle.located.proofs.place_in.Goals.{Else-not-place_ok, Then-not-place_ok}
+use Rattle.located.proofs.place_in.Goals.{then-p-job-via-then-p-job, then-p-job-via-else-p-job+then-not-place_ok}
 
-pub returns-then-p-n : goal.returns-then-p-n
-returns-then-p-n c =
-    place_refused _ _
-    c.requires.0
-    c.requires.1
-    (wrong_length _ _ c.if-p-n.true)
-    c.refused.ensures
+pub returns-then-p-job : goal.returns-then-p-job
+unfolding refusal_number
+returns-then-p-job c =
+    record {
+      within = c.requires;
+      found =
+          place_refused c.args.job.opened c.args.p.now
+          (elim c.then-p-job.branch [
+            | then-p-job-via-then-p-job w ↦ wrong_length _ _ w.if-p-job.true
+            | then-p-job-via-else-p-job+then-not-place_ok w ↦ wrong_form _ _ w.if-p-job.false (sym w.place_ok.ensures ∙ w.if-not-place_ok.true)
+          ]);
+    }
 
--- the definition's test of the place
-abbrev form : ℕ → List ℕ → Bool
-form n p = place_ok n (decode_place n p)
-
-malformed : (c : Then-not-place_ok) → form c.args.n c.args.p.now ≡ false
-malformed c = sym c.place_ok.ensures ∙ not-true c.place_ok.result c.if-not-place_ok.true-raw
-
-pub returns-then-not-place_ok : goal.returns-then-not-place_ok
-returns-then-not-place_ok c =
-    place_refused _ _
-    c.requires.0
-    c.requires.1
-    (wrong_form _ _ c.if-p-n.false (malformed (goal.at.returns-then-not-place_ok c).Then-not-place_ok))
-    c.refused-then-not-place_ok.ensures
-
-well-formed : (c : Else-not-place_ok) → form c.args.n c.args.p.now ≡ true
-well-formed c = sym c.place_ok.ensures ∙ not-false c.place_ok.result c.if-not-place_ok.false-raw
-
-pub facet_values-number-requires : goal.facet_values-number-requires
+pub facet_values-requires : goal.facet_values-requires
 unfolding move_limit
-facet_values-number-requires c = (
-  c.requires.0,
-  (vertex_wider c.read_place-place.ensures.size (lit≤ tt), c.requires.1),
-)
+facet_values-requires c = (vertex_wider c.read_place-place.ensures.size (lit≤ tt), c.requires)
 
-pub returns-then-number-ne0 : goal.returns-then-number-ne0
-returns-then-number-ne0 c =
-    facet_refused
-    c.requires.0
-    c.if-p-n.false
-    (well-formed (goal.at.returns-then-number-ne0 c).Else-not-place_ok)
-    c.read_place-place.ensures
-    c.facet_values-number.ensures
-    _
-    c.if-number-ne0.true
-    c.refused-then-number-ne0.ensures
+pub returns-in_err-facet_values : goal.returns-in_err-facet_values
+returns-in_err-facet_values c =
+    let h = c.in_err-facet_values.ensures in
+    record {
+      within = h.cells;
+      found =
+          passed_on _ _ _ c.from_residual.ensures.1
+          (h.found
+          ∙ facet_number c.args.job.opened _ c.if-p-job.false (sym c.place_ok.ensures ∙ c.if-not-place_ok.false) c.read_place-place.ensures);
+    }
 
 pub returns : goal.returns
 returns c =
-    place_found
-    c.requires.0
-    c.if-p-n.false
-    (well-formed (goal.at.returns c).Else-not-place_ok)
-    c.read_place-place.ensures
-    c.facet_values-number.ensures
-    c.if-number-ne0.false
+    let h = c.in_ok-facet_values.ensures in
+    record {
+      within = h.cells;
+      found =
+          place_found c.args.job.opened _ c.if-p-job.false (sym c.place_ok.ensures ∙ c.if-not-place_ok.false) c.read_place-place.ensures h.found;
+    }

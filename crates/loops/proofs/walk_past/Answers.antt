@@ -1,51 +1,49 @@
--- `loops::walk_past` meets its contract. The invariant: what was counted, with the rest of the trace from `here` on, tells what the whole does, and
--- the cells hold what is carried at `here`. The measure is the number of places that the trace has left.
-use borrow.Author.Rules.{rules}
-use mathlib.Core.Path.{ap, subst, ◌∙◌}
-use lib.ListN.{length}
+-- `loops::walk_past` meets its contract: each turn counts, and the last one tells.
+use Rattle.std.proofs.Common.{Err, sym, ap, subst, ◌∙◌, arith}
 use Rattle.places.specs.Held.{facet_as, place_as}
-use Rattle.job.proofs.OpenJob.{job_axes}
-use Rattle.carried.specs.Carries.{Carries}
-use Rattle.ahead.specs.Visited.{VisitedIs}
-use Rattle.seamlist.specs.WholeTrace.{rest_from}
-use Rattle.loops.specs.Past.{beside}
-use Rattle.loops.proofs.Passing.{Passing, passing_begins, passing_same, passing_over, passing_on, fewer_left}
+use Rattle.ahead.specs.Visited.{GoesOn, VisitedIs}
+use Rattle.loops.specs.Past.{flips, beside}
+use Rattle.loops.proofs.Passing.{passing_begins, passing_same, passing_over, passing_on, fewer_left, flips_is}
 use Rattle.loops.proofs.walk_past.Goals as goal
 
 pub loop-past-init : goal.loop-past-init
-loop-past-init c = (passing_begins c.requires.held c.args.past, c.requires)
-
-pub same_facet-requires : goal.same_facet-requires
-same_facet-requires c = job_axes c.loop-past.invariant.0.held.job
+loop-past-init c = (passing_begins c.requires.carries.held c.args.past (grind arith), c.requires.carries)
 
 pub returns-then-same_facet : goal.returns-then-same_facet
 returns-then-same_facet c = passing_same c.loop-past.invariant.0 c.same_facet.ensures c.if-same_facet.true
 
-pub look_ahead-after-requires : goal.look_ahead-after-requires
-look_ahead-after-requires c = (c.loop-past.invariant.0.held, c.loop-past.invariant.1)
-
-pub returns-in-Over : goal.returns-in-Over
-unfolding place_as facet_as
-returns-in-Over c =
+pub returns-then-odd : goal.returns-then-odd
+unfolding place_as facet_as beside
+returns-then-odd c =
     let a = c.args in
-    let loop = c.loop-past in
-    let after = c.look_ahead-after.new.cells in
-    let over = subst (λ r. VisitedIs a.job.now 2 (place_as 2 a.start.place) (place_as 2 loop.here.place) r after) c.in-Over.is c.look_ahead-after.ensures in
-    c.side_of.ensures ∙ ap beside c.counted-odd.ensures ∙ passing_over loop.invariant.0 c.same_facet.ensures c.if-same_facet.false over
+    let x = c.loop-past.here.place in
+    let over = subst (λ n. VisitedIs a.job.bytes.now n (place_as n a.start.place) (place_as n x) (Err c.in-Err.field-0) c.look_ahead.new.cells)
+    c.requires.dimension c.in-Err.ensures in
+    let count = flips_is c.edge_ahead-odd.result c.loop-past.odd ∙ ap (λ b. flips b c.loop-past.odd) c.edge_ahead-odd.ensures in
+    ap beside (sym c.if-odd.true ∙ count) ∙ passing_over c.loop-past.invariant.0 c.same_facet.ensures c.if-same_facet.false over
+
+pub returns-else-odd : goal.returns-else-odd
+unfolding place_as facet_as beside
+returns-else-odd c =
+    let a = c.args in
+    let x = c.loop-past.here.place in
+    let over = subst (λ n. VisitedIs a.job.bytes.now n (place_as n a.start.place) (place_as n x) (Err c.in-Err.field-0) c.look_ahead.new.cells)
+    c.requires.dimension c.in-Err.ensures in
+    let count = flips_is c.edge_ahead-odd.result c.loop-past.odd ∙ ap (λ b. flips b c.loop-past.odd) c.edge_ahead-odd.ensures in
+    ap beside (sym c.if-odd.false ∙ count) ∙ passing_over c.loop-past.invariant.0 c.same_facet.ensures c.if-same_facet.false over
 
 pub loop-past-smaller : goal.loop-past-smaller
 loop-past-smaller c =
     let a = c.args in
-    let loop = c.loop-past in
-    let after = c.look_ahead-after.new.cells in
-    let on = subst (λ r. VisitedIs a.job.now 2 (place_as 2 a.start.place) (place_as 2 loop.here.place) r after) c.in-Next.is c.look_ahead-after.ensures in
-    fewer_left loop.invariant.0 c.same_facet.ensures c.if-same_facet.false on
+    let on = subst (λ n. GoesOn a.job.bytes.now n (place_as n a.start.place) (place_as n c.loop-past.here.place) c.in-Ok.next c.look_ahead.new.cells)
+    c.requires.dimension c.in-Ok.ensures in
+    fewer_left c.loop-past.invariant.0 c.same_facet.ensures c.if-same_facet.false on
 
 pub loop-past-preserved : goal.loop-past-preserved
 unfolding place_as facet_as
 loop-past-preserved c =
     let a = c.args in
-    let loop = c.loop-past in
-    let after = c.look_ahead-after.new.cells in
-    let on = subst (λ r. VisitedIs a.job.now 2 (place_as 2 a.start.place) (place_as 2 loop.here.place) r after) c.in-Next.is c.look_ahead-after.ensures in
-    (passing_on loop.invariant.0 c.same_facet.ensures c.if-same_facet.false on c.counted-odd.ensures, on.carries)
+    let on = subst (λ n. GoesOn a.job.bytes.now n (place_as n a.start.place) (place_as n c.loop-past.here.place) c.in-Ok.next c.look_ahead.new.cells)
+    c.requires.dimension c.in-Ok.ensures in
+    let count = flips_is c.edge_ahead-odd.result c.loop-past.odd ∙ ap (λ b. flips b c.loop-past.odd) c.edge_ahead-odd.ensures in
+    (passing_on c.loop-past.invariant.0 c.same_facet.ensures c.if-same_facet.false on count, on.carries)

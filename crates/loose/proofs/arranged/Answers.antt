@@ -4,18 +4,18 @@ use native.Mathlib.Omega.{arith}
 use Rattle.loose.proofs.ByIndex.{arranged_at}
 use Rattle.loose.proofs.arranged.Goals as goal
 
-pub returns-then-n-eq2 : goal.returns-then-n-eq2
-returns-then-n-eq2 c =
+pub returns-in-2 : goal.returns-in-2
+returns-in-2 c =
     let a = c.args in
-    arranged_at a.bounds a.polynomial1 a.polynomial2 a.polynomial3 a.start 1 a.n (a.start ∷ a.start ∷ []) c.if-n-eq2.true (omega arith)
+    arranged_at a.bounds a.polynomial1 a.polynomial2 a.polynomial3 a.start 1 a.n (a.start ∷ a.start ∷ []) c.in-2.is (omega arith)
 
-pub returns-then-n-eq3 : goal.returns-then-n-eq3
-returns-then-n-eq3 c =
+pub returns-in-3 : goal.returns-in-3
+returns-in-3 c =
     let a = c.args in
-    arranged_at a.bounds a.polynomial1 a.polynomial2 a.polynomial3 a.start 2 a.n (a.start ∷ []) c.if-n-eq3.true (omega arith)
+    arranged_at a.bounds a.polynomial1 a.polynomial2 a.polynomial3 a.start 2 a.n (a.start ∷ []) c.in-3.is (omega arith)
 
-pub returns : goal.returns
-returns c =
+pub returns-in_default : goal.returns-in_default
+returns-in_default c =
     let a = c.args in
     arranged_at a.bounds a.polynomial1 a.polynomial2 a.polynomial3 a.start 3 a.n []
-    (omega (arith, c.requires.low, c.requires.high, c.if-n-eq2.false, c.if-n-eq3.false)) (omega arith)
+    (omega arith) (omega arith)

@@ -28,24 +28,9 @@ sum_more {n} {sum} {k} {l} {f} p e s u = record {
   size = omega (arith, p.size);
 }
 
-pub overflow_mul-length : goal.overflow_mul-length
-overflow_mul-length c = record { fits = omega (arith, c.requires.0.high) }
-
-pub overflow_add-length : goal.overflow_add-length
-overflow_add-length c = record { fits = omega (arith, c.requires.0.high) }
-
 pub loop-k-init : goal.loop-k-init
 unfolding contents_end bodies_of
 loop-k-init c = record { within = omega arith; sum = omega arith; size = omega (arith, c.requires.0.high) }
-
-pub overflow_add-n : goal.overflow_add-n
-overflow_add-n c = record { fits = omega (arith, c.requires.0.high) }
-
-pub offset_bounds-bodies-k : goal.offset_bounds-bodies-k
-offset_bounds-bodies-k c = record { fits = omega (arith, c.requires.0.high, c.loop-k-test.true) }
-
-pub bounds-bodies-k : goal.bounds-bodies-k
-bounds-bodies-k c = omega (arith, c.requires.0.high, c.loop-k-test.true)
 
 -- one body more
 more : {n sum k : ℕ} (bodies : List (Bor (List ℕ))) → Axes n → lengths_ok n (body_at bodies) ≡ true → Summed n (body_at bodies) sum k → k < n + 1
@@ -57,12 +42,6 @@ more {n} {sum} {k} bodies axes right p l =
 
 pub overflow_add-length-in-loop-k : goal.overflow_add-length-in-loop-k
 overflow_add-length-in-loop-k c = record { fits = omega (arith, (more c.args.bodies c.requires.0 c.requires.1 c.loop-k.invariant c.loop-k-test.true).size, c.requires.0.high, c.loop-k-test.true) }
-
-pub overflow_add-k : goal.overflow_add-k
-overflow_add-k c = record { fits = omega (arith, c.requires.0.high, c.loop-k-test.true) }
-
-pub loop-k-smaller : goal.loop-k-smaller
-loop-k-smaller c = omega (arith, c.loop-k-test.true)
 
 pub loop-k-preserved : goal.loop-k-preserved
 loop-k-preserved c = more c.args.bodies c.requires.0 c.requires.1 c.loop-k.invariant c.loop-k-test.true

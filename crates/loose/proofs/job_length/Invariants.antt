@@ -1,7 +1,7 @@
 -- `loose::job_length` meets its contract: after k turns it is the length of the contents and the first k bodies.
 use mathlib.Core.Path.{◌≡◌}
 use mathlib.Core.List.{List}
-use Prim.Native.Nat.{ℕ, ◌+◌, ◌*◌, ◌-◌, ◌≤◌}
+use Prim.Native.Nat.{ℕ, ◌+◌, ◌*◌, ◌≤◌}
 use lib.ListN.{length}
 use Rattle.paper.specs.Job.{contents_end}
 use Rattle.assembly.specs.Assembled.{bodies_of}
@@ -15,6 +15,3 @@ pub record Summed (n : ℕ) (f : ℕ → List ℕ) (total k : ℕ) : Type 0 wher
 
 abbrev pub invariant-loop-k : goal.invariant-loop-k
 invariant-loop-k l = Summed l.n (body_at l.bodies) l.length l.k
-
-abbrev pub decreases-loop-k : goal.decreases-loop-k
-decreases-loop-k l = l.n + 1 - l.k

@@ -3,12 +3,6 @@ use native.Mathlib.Omega.{arith}
 use Rattle.moves.proofs.MovedColumns.{columns_first, columns_last, columns_between}
 use Rattle.moves.proofs.move_columns.Goals as goal
 
-pub drop_first-requires : goal.drop_first-requires
-drop_first-requires c = c.requires.0
-
-pub make_room-requires : goal.make_room-requires
-make_room-requires c = (c.requires.0, omega arith)
-
 pub returns-then-e-eq0 : goal.returns-then-e-eq0
 returns-then-e-eq0 c = columns_first c.if-e-eq0.true c.drop_first.ensures
 

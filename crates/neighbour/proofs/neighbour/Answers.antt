@@ -1,6 +1,5 @@
 -- `neighbour::neighbour` meets its contract: the search finds the neighbour's row (`neighbour_is`).
 use mathlib.Core.Path.{◌≡◌, ap, ◌∙◌}
-use borrow.Author.Rules.{rules}
 use Rattle.table.specs.Table.{order_beyond}
 use Rattle.neighbour.proofs.Neighbours.{beyond_at, word_under_lem, first_under, neighbour_is}
 use Rattle.neighbour.proofs.neighbour.Goals as goal

@@ -1,7 +1,6 @@
 -- `neighbour::order_beyond` meets its contract: it computes as the definition does, case by case.
 use Prim.Native.Nat.{◌+◌, ◌-◌, ◌*◌, ◌/◌, ◌%◌, ◌^◌}
 use native.Mathlib.Omega.{arith}
-use borrow.Author.Rules.{rules}
 use Rattle.neighbour.proofs.OrderDigits.{beyond_first, beyond_last, beyond_between, Shifted, shifted, digit_part, moved_part}
 use Rattle.neighbour.proofs.order_beyond.Goals as goal
 use Rattle.neighbour.proofs.order_beyond.Goals.{Else-e-n, Then-e-eq0, Then-e-n}
@@ -53,17 +52,17 @@ lost :
 lost c =
     shifted (c.args.order / 2 ^ (12 - 4 * c.args.e + 4) % 16 * 15) (12 - 4 * c.args.e) (omega arith) (omega arith)
 
-pub overflow_add-result-2 : goal.overflow_add-result-2
-overflow_add-result-2 c = omega (arith, (gained (goal.at.overflow_add-result-2 c).Else-e-n).is, (gained (goal.at.overflow_add-result-2 c).Else-e-n).under)
+pub overflow_add-result-else-e-n : goal.overflow_add-result-else-e-n
+overflow_add-result-else-e-n c = omega (arith, (gained (goal.at.overflow_add-result-else-e-n c).Else-e-n).is, (gained (goal.at.overflow_add-result-else-e-n c).Else-e-n).under)
 
-pub overflow_sub-result-2 : goal.overflow_sub-result-2
-overflow_sub-result-2 c = omega (arith, (lost (goal.at.overflow_sub-result-2 c).Else-e-n).is, moved_part c.args.order (12 - 4 * c.args.e))
+pub overflow_sub-result-else-e-n : goal.overflow_sub-result-else-e-n
+overflow_sub-result-else-e-n c = omega (arith, (lost (goal.at.overflow_sub-result-else-e-n c).Else-e-n).is, moved_part c.args.order (12 - 4 * c.args.e))
 
-pub returns : goal.returns
-returns c =
+pub returns-else-e-n : goal.returns-else-e-n
+returns-else-e-n c =
     omega (
       arith,
-      (gained (goal.at.returns c).Else-e-n).is,
-      (lost (goal.at.returns c).Else-e-n).is,
+      (gained (goal.at.returns-else-e-n c).Else-e-n).is,
+      (lost (goal.at.returns-else-e-n c).Else-e-n).is,
       beyond_between c.args.n c.args.order c.args.e c.if-e-eq0.false c.if-e-n.false,
     )

@@ -1,19 +1,16 @@
 -- `pen::closes` meets its contract, test by test.
-use native.Mathlib.Omega.{arith}
 use borrow.Author.Tests.{eq-eqb, ne_eqb, lt-ltb, le-ltb}
 use Rattle.pen.specs.Moves.{closes_at}
 use Rattle.pen.proofs.closes.Goals as goal
 
-pub returns-then-k-count : goal.returns-then-k-count
+pub returns-then-count-gt0 : goal.returns-then-count-gt0
 unfolding closes_at
-returns-then-k-count c = simp (ne_eqb _ _ c.if-k-count.true)
+returns-then-count-gt0 c = simp (eq-eqb _ _ c.if-k-count.true, lt-ltb 0 c.args.count c.if-count-gt0.true)
 
-pub returns-then-count-eq0 : goal.returns-then-count-eq0
+pub returns-else-count-gt0 : goal.returns-else-count-gt0
 unfolding closes_at
-returns-then-count-eq0 c =
-    simp (eq-eqb _ _ c.if-k-count.false, le-ltb 0 c.args.count (omega (arith, c.if-count-eq0.true)))
+returns-else-count-gt0 c = simp (eq-eqb _ _ c.if-k-count.true, le-ltb 0 c.args.count c.if-count-gt0.false)
 
-pub returns : goal.returns
+pub returns-else-k-count : goal.returns-else-k-count
 unfolding closes_at
-returns c =
-    simp (eq-eqb _ _ c.if-k-count.false, lt-ltb 0 c.args.count (omega (arith, c.if-count-eq0.false)))
+returns-else-k-count c = simp (ne_eqb _ _ c.if-k-count.false)

@@ -1,34 +1,10 @@
--- `places::place_ok` meets its contract: chain and side decide (`place_is`).
-use mathlib.Core.Path.{◌≡◌}
-use mathlib.Core.Bool.{◌&&◌}
-use Prim.Native.Nat.{◌*◌, ◌-◌}
-use native.Mathlib.Omega.{arith}
-use lib.Dec.{ltb}
-use borrow.Author.Rules.{rules}
-use Rattle.curves.specs.Grid.{chain, place_ok}
-use Rattle.paper.specs.Job.{decode_place}
-use Rattle.paper.specs.Bytes.{byte}
-use Rattle.paper.proofs.RangeSteps.{test_failed, test_passed}
-use Rattle.places.proofs.ChainSteps.{place_is}
+-- `places::place_ok` meets its contract: chain and side decide.
+use Rattle.std.proofs.Common.{◌∙◌}
+use Rattle.places.proofs.ChainSteps.{side_decides, chain_decides}
 use Rattle.places.proofs.place_ok.Goals as goal
-use Rattle.places.proofs.place_ok.Goals.{After-shared_slice_known-1}
 
--- chain and side decide
-tests : (c : After-shared_slice_known-1)
-    → place_ok c.args.n (decode_place c.args.n c.args.p.now)
-    ≡ (chain c.args.n 0 (decode_place c.args.n c.args.p.now).facet.masks
-    && ltb (byte c.args.p.now (3 * c.args.n - 1)) 2)
-tests c = place_is c.args.n c.args.p.now (omega (arith, c.requires.0.low))
+pub returns-then-chain_ok : goal.returns-then-chain_ok
+returns-then-chain_ok c = side_decides c.args.n c.args.p.now c.requires.0 c.requires.1 c.if-chain_ok.ensures c.byte.ensures.is
 
-pub returns-then-not-chain_ok : goal.returns-then-not-chain_ok
-returns-then-not-chain_ok c = rw (tests (goal.at.returns-then-not-chain_ok c).After-shared_slice_known-1, test_failed c.chain_ok.ensures c.if-not-chain_ok.true-raw)
-
-pub overflow_sub-n : goal.overflow_sub-n
-overflow_sub-n c = omega (arith, c.requires.0.low)
-
-pub byte-requires : goal.byte-requires
-byte-requires c = omega (arith, c.requires.0.low)
-
-pub returns : goal.returns
-returns c =
-    rw (tests (goal.at.returns c).After-shared_slice_known-1, test_passed c.chain_ok.ensures c.if-not-chain_ok.false-raw, c.byte.ensures.is)
+pub returns-else-chain_ok : goal.returns-else-chain_ok
+returns-else-chain_ok c = c.chain_ok.ensures ∙ chain_decides c.args.n c.args.p.now c.requires.0 c.requires.1 c.if-chain_ok.ensures

@@ -1,12 +1,13 @@
--- `places::same_facet` meets its contract: the lowest vertices, then the masks.
-use mathlib.Core.Path.{◌∙◌}
-use Rattle.paper.proofs.RangeSteps.{test_failed, test_passed}
-use Rattle.places.proofs.SameNumbers.{vertex_decides, masks_decide}
-use borrow.Author.Rules.{rules}
+-- `places::same_facet` meets its contract: the coordinates that count, and then the masks.
+use Rattle.std.proofs.Common.{◌∙◌, sym}
+use Rattle.places.specs.Held.{vertex_as, masks_as}
+use Rattle.places.proofs.SameNumbers.{vertices_differ, masks_decide}
 use Rattle.places.proofs.same_facet.Goals as goal
 
-pub returns-then-not-same_vertex : goal.returns-then-not-same_vertex
-returns-then-not-same_vertex c = vertex_decides _ _ _ (test_failed c.same_vertex.ensures c.if-not-same_vertex.true-raw)
+pub returns-then-eq : goal.returns-then-eq
+unfolding vertex_as masks_as
+returns-then-eq c = c.eq-then-eq.ensures ∙ masks_decide c.args.n c.args.p c.args.q (sym c.eq.ensures ∙ c.if-eq.true)
 
-pub returns : goal.returns
-returns c = c.same_masks.ensures ∙ masks_decide _ _ _ (test_passed c.same_vertex.ensures c.if-not-same_vertex.false-raw)
+pub returns-else-eq : goal.returns-else-eq
+unfolding vertex_as masks_as
+returns-else-eq c = c.if-eq.false ∙ vertices_differ c.args.n c.args.p c.args.q (sym c.eq.ensures ∙ c.if-eq.false)

@@ -1,38 +1,27 @@
--- `points::point` meets its contract: `on_axis` gives the definition's coordinates.
-use native.Mathlib.Nat.{le_refl}
-use lib.Dec.{lit≤}
-use Rattle.exact.proofs.Bits.{back_size, holds_call}
+-- `points::point` meets its contract: the coordinates before `axis` are those of the definition's point.
+use native.Mathlib.Omega.{arith}
+use borrow.Author.Rules.{rules}
 use Rattle.places.specs.Held.{masks_as}
 use Rattle.determinants.specs.Cells.{facet_columns}
-use Rattle.points.proofs.PointSteps.{point_is}
+use Rattle.points.proofs.PointSteps.{asks, gives, point_begin, point_next, point_is}
 use Rattle.points.proofs.point.Goals as goal
 
-pub determinant-d-requires : goal.determinant-d-requires
-determinant-d-requires c = record { cells = c.requires.cells; out_le_n = le_refl c.args.n }
+pub loop-axis-init : goal.loop-axis-init
+loop-axis-init c = point_begin c.args.n (facet_columns c.args.n c.args.cells.now c.args.n) (masks_as c.args.n c.args.p) c.args.p.low
 
-pub on_axis-requires : goal.on_axis-requires
-on_axis-requires c =
-    let determinant = c.determinant-d in
-    record { cells = c.requires.cells; n_value = c.requires.n_value; size = (back_size c.requires.vertex_size.x (lit≤ tt), holds_call determinant.ensures (lit≤ tt)) }
+pub coordinate-requires : goal.coordinate-requires
+coordinate-requires c =
+    asks c.requires.cells c.requires.n_value c.args.p (search rules) c.loop-axis.axis (c.requires.vertex_size.each c.loop-axis.axis)
+    c.determinant-d.ensures c.weight_sum.ensures
 
-pub on_axis-requires-2 : goal.on_axis-requires-2
-on_axis-requires-2 c =
-    let determinant = c.determinant-d in
-    record { cells = c.requires.cells; n_value = c.requires.n_value; size = (back_size c.requires.vertex_size.y (lit≤ tt), holds_call determinant.ensures (lit≤ tt)) }
-
-pub on_axis-requires-3 : goal.on_axis-requires-3
-on_axis-requires-3 c =
-    let determinant = c.determinant-d in
-    record { cells = c.requires.cells; n_value = c.requires.n_value; size = (back_size c.requires.vertex_size.z (lit≤ tt), holds_call determinant.ensures (lit≤ tt)) }
-
-pub on_axis-requires-4 : goal.on_axis-requires-4
-on_axis-requires-4 c =
-    let determinant = c.determinant-d in
-    record { cells = c.requires.cells; n_value = c.requires.n_value; size = (back_size c.requires.vertex_size.w (lit≤ tt), holds_call determinant.ensures (lit≤ tt)) }
+pub loop-axis-preserved : goal.loop-axis-preserved
+loop-axis-preserved c =
+    point_next c.args.n (facet_columns c.args.n c.args.cells.now c.args.n) (masks_as c.args.n c.args.p) c.args.p.low
+    (omega (arith, c.loop-axis-test.true, c.requires.cells.axes.high)) c.loop-axis.invariant
+    (gives c.requires.cells c.requires.n_value c.args.p (search rules) c.loop-axis.axis (c.requires.vertex_size.each c.loop-axis.axis)
+    c.determinant-d.ensures c.weight_sum.ensures c.coordinate.ensures)
 
 pub returns : goal.returns
 returns c =
-    let n = c.args.n in
-    let p = c.args.p in
-    point_is n (facet_columns n c.args.cells.now n) (masks_as n p) p.low c.requires.cells.axes c.requires.vertex_size
-    c.on_axis.ensures c.on_axis-2.ensures c.on_axis-3.ensures c.on_axis-4.ensures
+    point_is c.args.n (facet_columns c.args.n c.args.cells.now c.args.n) (masks_as c.args.n c.args.p) c.args.p.low
+    c.requires.cells.axes c.requires.vertex_size.count (omega (arith, c.loop-axis-test.false)) c.loop-axis.invariant

@@ -9,7 +9,6 @@ use Rattle.paper.specs.Values.{has_axis}
 use Rattle.determinants.specs.Entries.{coefficient_limit}
 use Rattle.determinants.proofs.FacetMinors.{coefficient_size}
 use Rattle.points.proofs.WeightSums.{axis_there, axis_missing, cond_size}
-use borrow.Author.Rules.{rules}
 use Rattle.points.proofs.weight.Goals as goal
 
 pub coefficient-requires : goal.coefficient-requires
@@ -21,8 +20,8 @@ returns-then-mask-axis-eq1 c =
     subst (λ z. Is coefficient_limit z (back c.coefficient.result))
     (axis_there c.args.mask c.args.axis _ _ c.if-mask-axis-eq1.true) (holds_call c.coefficient.ensures (lit≤ tt))
 
-pub returns : goal.returns
-returns c = record {
+pub returns-else-mask-axis-eq1 : goal.returns-else-mask-axis-eq1
+returns-else-mask-axis-eq1 c = record {
   is = axis_missing c.args.mask c.args.axis _ _ c.if-mask-axis-eq1.false;
   size = cond_size (has_axis c.args.mask c.args.axis)
       (coefficient_size _ _ c.requires.cells c.args.n c.args.i 0 c.requires.i_lt_n.0

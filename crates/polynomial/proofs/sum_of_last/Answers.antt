@@ -1,63 +1,39 @@
--- `polynomial::sum_of_last` meets its contract. The loop's invariant: the sum is that of the last terms, as many as are no longer left.
-use Prim.Native.Nat.{ℕ, ◌≤◌, ◌-◌}
+-- `polynomial::sum_of_last` meets its contract.
 use native.Mathlib.Omega.{arith}
+use Prim.Native.Nat.{◌-◌}
 use mathlib.Core.Path.{◌≡◌}
-use mir.Syntax.{w64}
-use mir.Val.{to_z}
 use Rattle.paper.specs.Job.{term_count}
-use Rattle.polynomial.specs.Sums.{tabled}
-use Rattle.polynomial.proofs.PowerLaws.{BoxVertex, tables_vertex}
-use Rattle.polynomial.proofs.PartialSums.{IsSumOfLast, last_none, last_fits, last_more, running_is}
+use Rattle.polynomial.proofs.PowerLaws.{tables_vertex}
+use Rattle.polynomial.proofs.PartialSums.{last_none, last_fits, last_more, running_is}
 use Rattle.polynomial.proofs.sum_of_last.Goals as goal
-use Rattle.polynomial.proofs.sum_of_last.Goals.{Start}
 
-at_vertex : (c : Start) → BoxVertex (tabled c.args.n c.args.px.now c.args.py.now c.args.pz.now c.args.pw.now)
-at_vertex c = tables_vertex c.requires.polynomial.0.axes c.requires.tables
-
-pub overflow_sub-first : goal.overflow_sub-first
+pub overflow_sub-i-start : goal.overflow_sub-i-start
 unfolding term_count
-overflow_sub-first c = omega (arith, c.requires.polynomial.1)
+overflow_sub-i-start c = omega (arith, c.requires.polynomial.1)
 
-pub loop-left-init : goal.loop-left-init
-loop-left-init c = (last_none c.requires.polynomial.0 (at_vertex (goal.at.loop-left-init c).Start) _ (omega arith), omega arith)
-
-pub overflow_sub-left : goal.overflow_sub-left
-overflow_sub-left c = omega (arith, c.loop-left-test.true)
-
-pub overflow_add-first : goal.overflow_add-first
+pub loop-i-init : goal.loop-i-init
 unfolding term_count
-overflow_add-first c =
-    omega (arith, c.loop-left-test.true, c.loop-left.invariant.1, c.requires.polynomial.1, c.well_formed)
+loop-i-init c = (omega arith, last_none c.requires.polynomial.0 (tables_vertex c.requires.tables) _ (omega arith))
 
-pub term_value-sum-requires : goal.term_value-sum-requires
+pub term_value-sum-requires-clause-polynomial : goal.term_value-sum-requires-clause-polynomial
 unfolding term_count
-term_value-sum-requires c =
-    record { polynomial = (c.requires.polynomial.0, omega (arith, c.loop-left-test.true, c.loop-left.invariant.1, c.requires.polynomial.1)); tables = c.requires.tables }
+term_value-sum-requires-clause-polynomial c = (c.requires.polynomial.0, omega arith)
 
 pub overflow_add-sum : goal.overflow_add-sum
 unfolding term_count
 overflow_add-sum c =
-    let inv = c.loop-left.invariant in
-    let taken = c.loop-left-test.true in
-    last_fits c.requires.polynomial.0 (at_vertex (goal.at.overflow_add-sum c).Start) _ _ (omega (arith, taken, inv.1, c.requires.polynomial.1))
-    (omega (arith, taken, inv.1, c.requires.polynomial.1)) inv.0 c.term_value-sum.ensures
+    last_fits c.requires.polynomial.0 (tables_vertex c.requires.tables) _ _ (omega arith) (omega arith) c.loop-i.invariant.1 c.term_value-sum.ensures
 
-pub loop-left-smaller : goal.loop-left-smaller
-loop-left-smaller c = omega (arith, c.loop-left-test.true)
-
-pub loop-left-preserved : goal.loop-left-preserved
+pub loop-i-preserved : goal.loop-i-preserved
 unfolding term_count
-loop-left-preserved c =
-    let inv = c.loop-left.invariant in
-    let taken = c.loop-left-test.true in (
-      last_more c.requires.polynomial.0 (at_vertex (goal.at.loop-left-preserved c).Start) _ _ (omega (arith, taken, inv.1, c.requires.polynomial.1))
-          (omega (arith, taken, inv.1, c.requires.polynomial.1)) inv.0 c.term_value-sum.ensures (omega (arith, taken, inv.1)),
-      omega (arith, inv.1),
-    )
+loop-i-preserved c = (
+  omega arith,
+  last_more c.requires.polynomial.0 (tables_vertex c.requires.tables) _ _ (omega arith) (omega arith) c.loop-i.invariant.1 c.term_value-sum.ensures
+      (omega arith),
+)
 
 pub returns : goal.returns
+unfolding term_count
 returns c =
-    let inv = c.loop-left.invariant in
-    let done : ℕ = c.args.terms - c.loop-left.left in
-    let all : done ≡ c.args.terms = omega (arith, c.loop-left-test.false) in
-    running_is c.requires.polynomial.0 (at_vertex (goal.at.returns c).Start) _ c.requires.polynomial.1 (rw all at inv.0)
+    let all : term_count c.args.body.now - c.loop-i.i ≡ c.args.terms = omega arith in
+    running_is c.requires.polynomial.0 (tables_vertex c.requires.tables) _ c.requires.polynomial.1 (rw all at c.loop-i.invariant.1)

@@ -1,6 +1,5 @@
 -- The four readers end by one induction: the remaining text falls, and within one byte sum, product, power and atom stand in this order.
 use Rattle.std.proofs.Common.{◌-◌, ◌*◌, ◌+◌, length}
-use Rattle.formula.specs.Polynomial.{Kept}
 use Rattle.coefficients.specs.Result.{result_as}
 use Rattle.readers.specs.Ahead.{ProductSoFar, SumSoFar}
 use Rattle.readers.proofs.+read_atom_read_power_read_product_read_sum.Given as goal
@@ -17,14 +16,14 @@ decreases-read_product l = 4 * (length l.text.now - l.at) + 2
 abbrev pub decreases-read_sum : goal.decreases-read_sum
 decreases-read_sum l = 4 * (length l.text.now - l.at) + 3
 
-abbrev pub invariant-read_product-loop-next : goal.invariant-read_product-loop-next
-invariant-read_product-loop-next l = ProductSoFar l.n l.text l.at l.depth l.next (result_as l.result) × Kept l.result.cells
+abbrev pub invariant-read_product-loop-factor : goal.invariant-read_product-loop-factor
+invariant-read_product-loop-factor l = ProductSoFar l.n l.text l.at l.depth l.product.next (result_as l.product.result)
 
-abbrev pub decreases-read_product-loop-next : goal.decreases-read_product-loop-next
-decreases-read_product-loop-next l = length l.text - l.next
+abbrev pub decreases-read_product-loop-factor : goal.decreases-read_product-loop-factor
+decreases-read_product-loop-factor l = length l.text - l.product.next
 
 abbrev pub invariant-read_sum-loop-minus : goal.invariant-read_sum-loop-minus
-invariant-read_sum-loop-minus l = SumSoFar l.n l.text l.at l.depth l.next (result_as l.result) × Kept l.result.cells
+invariant-read_sum-loop-minus l = SumSoFar l.n l.text l.at l.depth l.sum.next (result_as l.sum.result)
 
 abbrev pub decreases-read_sum-loop-minus : goal.decreases-read_sum-loop-minus
-decreases-read_sum-loop-minus l = length l.text - l.next
+decreases-read_sum-loop-minus l = length l.text - l.sum.next

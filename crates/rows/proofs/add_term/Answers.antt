@@ -5,27 +5,22 @@ use Rattle.rows.proofs.add_term.Goals as goal
 pub returns-then-x-eq0 : goal.returns-then-x-eq0
 returns-then-x-eq0 c = term_none c.requires.bounded.1.0 c.requires.bounded.1.1 c.args.i c.args.k c.if-x-eq0.true
 
-pub product_slot-s-requires : goal.product_slot-s-requires
-product_slot-s-requires c = c.requires.i_lt_monomial_count
-
-pub overflow_mul-more : goal.overflow_mul-more
-overflow_mul-more c =
+pub overflow_mul-r : goal.overflow_mul-r
+overflow_mul-r c =
     let sizes = c.requires.bounded in
     product_fits sizes.1.0 sizes.1.1
 
-pub overflow_add-sum : goal.overflow_add-sum
-overflow_add-sum c =
+pub overflow_add-r : goal.overflow_add-r
+overflow_add-r c =
     let sizes = c.requires.bounded in
-    sum_fits sizes.1.0 sizes.1.1 c.args.i c.args.k sizes.0 c.product_slot-s.ensures
+    sum_fits sizes.1.0 sizes.1.1 c.args.i c.args.k sizes.0 c.in-Some.ensures.0
 
-pub returns-then-s-lt70 : goal.returns-then-s-lt70
-returns-then-s-lt70 c =
+pub returns-in-Some : goal.returns-in-Some
+returns-in-Some c =
     let sizes = c.requires.bounded in
-    term_put sizes.1.0 sizes.1.1 c.args.i c.args.k sizes.0 c.product_slot-s.ensures
-    c.if-x-eq0.false
+    term_put sizes.1.0 sizes.1.1 c.args.i c.args.k sizes.0 c.in-Some.ensures.0 c.if-x-eq0.false
 
-pub returns-else-s-lt70 : goal.returns-else-s-lt70
-returns-else-s-lt70 c =
+pub returns-in_default : goal.returns-in_default
+returns-in_default c =
     let sizes = c.requires.bounded in
-    term_outside sizes.1.0 sizes.1.1 c.args.i c.args.k sizes.0 c.product_slot-s.ensures
-    c.if-x-eq0.false c.if-s-lt70.false
+    term_outside sizes.1.0 sizes.1.1 c.args.i c.args.k sizes.0 c.if-x-eq0.false c.in_default.ensures

@@ -1,12 +1,10 @@
 -- `scan::at_facet` meets its contract: no seam's least, no space, or written.
 use native.Mathlib.Omega.{arith}
-use mathlib.Core.Path.{sym, ap, subst, ◌∙◌}
-use borrow.Author.Rules.{rules}
+use mathlib.Core.Path.{sym, ◌∙◌}
 use borrow.Author.Tests.{not-true, not-false}
-use Rattle.paper.specs.Job.{encode_place}
 use Rattle.places.specs.Held.{facet_as}
-use Rattle.job.proofs.OpenJob.{job_axes}
-use Rattle.step.proofs.HeldPlaces.{held_fits, held_form}
+use Rattle.job.proofs.Opened.{job_axes}
+use Rattle.step.proofs.HeldPlaces.{held_fits}
 use Rattle.least.specs.Search.{least_in}
 use Rattle.least.proofs.BothWays.{front_is}
 use Rattle.scan.specs.Scanned.{space_for}
@@ -17,7 +15,7 @@ use Rattle.scan.proofs.at_facet.Goals as goal
 pub returns-then-not-is_seam : goal.returns-then-not-is_seam
 returns-then-not-is_seam c =
     let a = c.args in
-    facet_passed (least_in a.job.now) (facet_as a.n a.p) c.requires.1 (sym c.is_seam.ensures ∙ not-true _ c.if-not-is_seam.true-raw)
+    facet_passed (least_in a.job.bytes.now) (facet_as a.job.n a.p) c.requires.1 (sym c.is_seam.ensures ∙ not-true _ c.if-not-is_seam.true-raw)
 
 pub overflow_mul-size : goal.overflow_mul-size
 overflow_mul-size c = omega (arith, (job_axes c.requires.0.job).high)
@@ -29,27 +27,27 @@ pub returns-then-buffer-size : goal.returns-then-buffer-size
 unfolding space_for
 returns-then-buffer-size c =
     let a = c.args in
-    facet_left (least_in a.job.now) (facet_as a.n a.p) c.requires.1 (sym c.is_seam.ensures ∙ not-false _ c.if-not-is_seam.false-raw) c.if-buffer-size.true
+    facet_left (least_in a.job.bytes.now) (facet_as a.job.n a.p) c.requires.1 (sym c.is_seam.ensures ∙ not-false _ c.if-not-is_seam.false-raw) c.if-buffer-size.true
 
 pub overflow_mul-count : goal.overflow_mul-count
 unfolding space_for
 overflow_mul-count c =
     let a = c.args in
-    omega (arith, room a.n a.count a.buffer.now c.if-buffer-size.false, c.well_formed)
+    omega (arith, room a.job.n a.count a.buffer.now c.if-buffer-size.false, c.well_formed)
 
 pub write_place-requires : goal.write_place-requires
 unfolding space_for
 write_place-requires c =
     let a = c.args in (
       held_fits (seam_held c.requires.0 (sym c.is_seam.ensures ∙ not-false _ c.if-not-is_seam.false-raw)),
-      room a.n a.count a.buffer.now c.if-buffer-size.false,
+      room a.job.n a.count a.buffer.now c.if-buffer-size.false,
     )
 
 pub overflow_add-result : goal.overflow_add-result
 unfolding space_for
 overflow_add-result c =
     let a = c.args in
-    omega (arith, counts_on a.n a.count a.buffer.now c.if-buffer-size.false, c.well_formed)
+    omega (arith, counts_on a.job.n a.count a.buffer.now c.if-buffer-size.false, c.well_formed)
 
 pub returns : goal.returns
 unfolding space_for
@@ -57,5 +55,5 @@ returns c =
     let a = c.args in
     let o = c.requires.0 in
     let seam = sym c.is_seam.ensures ∙ not-false _ c.if-not-is_seam.false-raw in
-    facet_put (least_in a.job.now) (facet_as a.n a.p) c.requires.1 seam c.if-buffer-size.false (seam_form o seam)
-    (rw (← front_is a.n a.p o.side) c.write_place.ensures)
+    facet_put (least_in a.job.bytes.now) (facet_as a.job.n a.p) c.requires.1 seam c.if-buffer-size.false (seam_form o seam)
+    (rw (← front_is a.job.n a.p o.side) c.write_place.ensures)

@@ -1,29 +1,31 @@
--- `stored::put_vertex` meets its contract: each coordinate that counts behind the one before.
-use mathlib.Core.Path.{refl, ◌∙◌}
-use native.Mathlib.Omega.{arith}
-use Rattle.places.proofs.VertexBack.{vertex_back}
-use Rattle.places.proofs.PlaceStored.{coordinate_room, vertex_stored}
-use borrow.Author.Rules.{rules}
+-- `stored::put_vertex` meets its contract: one coordinate more at each turn.
+use Rattle.std.proofs.Common.{◌≡◌, ◌∙◌, ◌+◌, ◌*◌, ap, refl, arith, get_or, ℤ}
+use lib.Seq.{sets}
+use Rattle.exact.specs.Int.{0ℤ}
+use Rattle.paper.specs.Bytes.{word_bytes}
+use Rattle.paper.specs.Job.{vertex_bytes}
+use Rattle.places.specs.Held.{vertex_as}
+use Rattle.places.proofs.WordBytes.{short_back, back_short}
+use Rattle.places.proofs.PlaceStored.{coordinate_short, word_more}
 use Rattle.stored.proofs.put_vertex.Goals as goal
 
-pub put_coordinate-requires : goal.put_coordinate-requires
-put_coordinate-requires c =
-    coordinate_room _ _ refl c.args.v c.requires 0 (omega arith)
+pub loop-a-init : goal.loop-a-init
+unfolding vertex_bytes
+loop-a-init c = refl
 
-pub put_coordinate-requires-2 : goal.put_coordinate-requires-2
-put_coordinate-requires-2 c =
-    coordinate_room _ _ c.put_coordinate.auto.buffer c.args.v c.requires 1 (omega arith)
+pub put_word-requires : goal.put_word-requires
+put_word-requires c =
+    let short = coordinate_short c.args.n c.args.v c.requires.1.0 c.loop-a.a c.loop-a-test.true in
+    (back_short (get_or c.args.v.coordinates c.loop-a.a 0ℤ) short, omega (arith, c.requires.1.1))
 
-pub put_coordinate-requires-3 : goal.put_coordinate-requires-3
-put_coordinate-requires-3 c =
-    coordinate_room _ _ (c.put_coordinate-2.auto.buffer ∙ c.put_coordinate.auto.buffer) c.args.v c.requires 2 (omega arith)
-
-pub put_coordinate-requires-4 : goal.put_coordinate-requires-4
-put_coordinate-requires-4 c =
-    coordinate_room _ _ (c.put_coordinate-3.auto.buffer ∙ c.put_coordinate-2.auto.buffer ∙ c.put_coordinate.auto.buffer) c.args.v
-    c.requires 3 (omega arith)
+pub loop-a-preserved : goal.loop-a-preserved
+loop-a-preserved c =
+    let short = coordinate_short c.args.n c.args.v c.requires.1.0 c.loop-a.a c.loop-a-test.true in
+    word_more c.args.buffer.now c.args.at c.args.v.coordinates c.loop-a.a (omega (arith, c.requires.0.high)) c.loop-a.invariant
+    (c.put_word.ensures ∙ ap (λ (x : ℤ). sets c.loop-a.buffer (c.args.at + 2 * c.loop-a.a) (word_bytes x)) (short_back (get_or c.args.v.coordinates c.loop-a.a 0ℤ) short))
 
 pub returns : goal.returns
+unfolding vertex_as
 returns c =
-    vertex_stored _ _ c.requires.0 (vertex_back c.args.v c.struct_told-1.given)
-    c.put_coordinate.ensures c.put_coordinate-2.ensures c.put_coordinate-3.ensures c.put_coordinate-4.ensures
+    let all : c.loop-a.a ≡ c.args.n = omega arith in
+    rw all at c.loop-a.invariant

@@ -2,7 +2,6 @@
 use native.Mathlib.Omega.{arith}
 use mathlib.Core.Path.{refl}
 use Rattle.places.proofs.PlaceStored.{fits_low, fits_masks, fits_side, place_stored}
-use borrow.Author.Rules.{rules}
 use Rattle.stored.proofs.write_place.Goals as goal
 
 pub put_vertex-requires : goal.put_vertex-requires

@@ -1,60 +1,55 @@
 -- `sums::running_sum` meets its contract: Open's refusal, 12, 12 or 9, or the running sum.
 use native.Mathlib.Omega.{arith}
-use borrow.Author.Tests.{not-true, not-false}
 use mathlib.Core.Path.{sym, ◌∙◌}
+use Rattle.std.proofs.Common.{Ok, Err}
 use Rattle.paper.specs.Job.{term_count}
-use Rattle.paper.specs.Answers.{summed_as}
-use Rattle.job.specs.OpenJob.{JobOf}
-use Rattle.job.proofs.OpenJob.{job_axes, opened}
+use Rattle.paper.specs.Refusals.{refusal_number}
+use Rattle.paper.specs.declared.Refusal.TheVariants.{Index, Outside}
+use Rattle.job.proofs.Opened.{job_axes}
 use Rattle.field.proofs.OpenedJob.{job_polynomial, job_near}
-use Rattle.sums.proofs.SumAnswers.{sum_unopened, no_polynomial, too_few_terms, vertex_outside, sum_answered}
+use Rattle.sums.proofs.SumAnswers.{sum_is, sum_unopened, no_polynomial, too_few_terms, vertex_outside, sum_answered}
 use Rattle.sums.proofs.running_sum.Goals as goal
-use Rattle.sums.proofs.running_sum.Goals.{After-opened_dimension-n}
 
-pub returns-then-refusal-ne0 : goal.returns-then-refusal-ne0
-unfolding summed_as
-returns-then-refusal-ne0 c = sum_unopened _ _ _ _ _ c.open_refusal-refusal.ensures c.if-refusal-ne0.true
+pub returns-in_err-open : goal.returns-in_err-open
+returns-in_err-open c = sum_is _ _ _ _ _ (sum_unopened _ _ _ _ _ _ c.in_err-open.ensures c.from_residual.ensures)
 
--- the job has opened
-job : (c : After-opened_dimension-n) → JobOf c.opened_dimension-n.result c.args.job.now
-job c = opened c.open_refusal-refusal.ensures c.if-refusal-ne0.false c.opened_dimension-n.ensures
+pub overflow_sub-open : goal.overflow_sub-open
+overflow_sub-open c = omega (arith, (job_axes c.in_ok-open.open.opened).low)
 
-pub overflow_sub-n : goal.overflow_sub-n
-overflow_sub-n c = omega (arith, (job_axes (job (goal.at.overflow_sub-n c).After-opened_dimension-n)).low)
-
-pub returns-then-n-index : goal.returns-then-n-index
-unfolding summed_as
-returns-then-n-index c = no_polynomial (job (goal.at.returns-then-n-index c).After-opened_dimension-n) _ _ _ (omega (arith, c.if-n-index.true))
+pub returns-then-open-index : goal.returns-then-open-index
+unfolding refusal_number
+returns-then-open-index c =
+    rw (← c.in_ok-open.ensures.1) (sum_is _ _ _ _ (Err Index) (no_polynomial c.in_ok-open.open.opened _ c.args.v _ c.if-open-index.true))
 
 pub returns-then-body-terms : goal.returns-then-body-terms
-unfolding summed_as term_count
-returns-then-body-terms c = too_few_terms (job (goal.at.returns-then-body-terms c).After-opened_dimension-n) _ _ _ c.if-n-index.false c.opened_body-body.ensures.bytes c.if-body-terms.true
-
-pub vertex_inside-requires : goal.vertex_inside-requires
-vertex_inside-requires c = job (goal.at.vertex_inside-requires c).After-opened_dimension-n
+unfolding refusal_number term_count
+returns-then-body-terms c =
+    rw (← c.in_ok-open.ensures.1) (
+    sum_is _ _ _ _ (Err Index)
+    (too_few_terms c.in_ok-open.open.opened _ c.args.v _ c.if-open-index.false c.body-body.ensures.bytes c.if-body-terms.true))
 
 pub returns-then-not-vertex_inside : goal.returns-then-not-vertex_inside
-unfolding summed_as term_count
+unfolding refusal_number term_count
 returns-then-not-vertex_inside c =
-    vertex_outside (job (goal.at.returns-then-not-vertex_inside c).After-opened_dimension-n) _ _ _ c.if-n-index.false
-    c.opened_body-body.ensures.bytes c.if-body-terms.false
-    (sym c.vertex_inside.ensures ∙ not-true _ c.if-not-vertex_inside.true-raw)
+    rw (← c.in_ok-open.ensures.1) (
+    sum_is _ _ _ _ (Err Outside)
+    (vertex_outside c.in_ok-open.open.opened _ c.args.v _ c.if-open-index.false c.body-body.ensures.bytes c.if-body-terms.false
+    (sym c.vertex_inside.ensures ∙ c.if-not-vertex_inside.true)))
 
-pub running_sum-requires : goal.running_sum-requires
+pub running_sum-requires-clause-polynomial : goal.running_sum-requires-clause-polynomial
+running_sum-requires-clause-polynomial c = (
+  job_polynomial c.in_ok-open.open.opened _ (omega arith) (omega arith) c.body-body.ensures.bytes,
+  job_near c.in_ok-open.open.opened _ (sym c.vertex_inside.ensures ∙ c.if-not-vertex_inside.false),
+)
+
+pub running_sum-requires-clause-terms_bound : goal.running_sum-requires-clause-terms_bound
 unfolding term_count
-running_sum-requires c =
-    let j = job (goal.at.running_sum-requires c).After-opened_dimension-n in
-    let under = c.if-n-index.false in record {
-      polynomial = (
-        job_polynomial j _ (omega arith) (omega (arith, under)) c.opened_body-body.ensures.bytes,
-        job_near j _ (sym c.vertex_inside.ensures ∙ not-false _ c.if-not-vertex_inside.false-raw),
-      );
-      terms_bound = c.if-body-terms.false;
-    }
+running_sum-requires-clause-terms_bound c = omega arith
 
 pub returns : goal.returns
-unfolding summed_as term_count
+unfolding term_count
 returns c =
-    sum_answered (job (goal.at.returns c).After-opened_dimension-n) _ _ _ c.if-n-index.false
-    c.opened_body-body.ensures.bytes c.if-body-terms.false
-    (sym c.vertex_inside.ensures ∙ not-false _ c.if-not-vertex_inside.false-raw) c.running_sum.ensures
+    rw (← c.in_ok-open.ensures.1) (
+    sum_is _ _ _ _ (Ok _)
+    (sum_answered c.in_ok-open.open.opened _ c.args.v _ c.if-open-index.false c.body-body.ensures.bytes c.if-body-terms.false
+    (sym c.vertex_inside.ensures ∙ c.if-not-vertex_inside.false) c.running_sum.ensures))

@@ -2,7 +2,6 @@
 use mathlib.Core.Path.{◌∙◌}
 use Prim.Native.Nat.{◌+◌, ◌<◌}
 use native.Mathlib.Omega.{arith}
-use borrow.Author.Rules.{rules}
 use Rattle.table.proofs.TableRows.{row_inside_lem, word_is}
 use Rattle.table.proofs.order.Goals as goal
 use Rattle.table.proofs.order.Goals.{After-first}
@@ -19,7 +18,7 @@ offset_bounds-first c = omega (arith, inside (goal.at.offset_bounds-first c).Aft
 
 pub returns : goal.returns
 returns c =
-    c.wide_order.ensures ∙ word_is c.args.n c.args.row c.requires c.first.ensures
+    c.from.ensures ∙ word_is c.args.n c.args.row c.requires c.first.ensures
 
 pub bounds-first : goal.bounds-first
 bounds-first c = inside (goal.at.bounds-first c).After-first

@@ -1,7 +1,6 @@
 -- `table::vertex_masks` meets its contract: the array has the masks of the table's vertices (`digits_are`).
 use Prim.Native.Nat.{◌+◌, ◌<◌}
 use native.Mathlib.Omega.{arith}
-use borrow.Author.Rules.{rules}
 use Rattle.table.proofs.TableRows.{row_inside_lem, digits_are}
 use Rattle.table.proofs.vertex_masks.Goals as goal
 use Rattle.table.proofs.vertex_masks.Goals.{After-first}

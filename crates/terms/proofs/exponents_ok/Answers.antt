@@ -1,44 +1,27 @@
--- `terms::exponents_ok` meets its contract: axis by axis, then the sum.
+-- `terms::exponents_ok` meets its contract.
+use Rattle.std.proofs.Common.{◌≡◌, ◌∙◌, sym, ◌||◌, slice_index, refl}
+use Rattle.std.proofs.lemmas.Iterator.{YieldsList-from_range}
+use Rattle.std.proofs.lemmas.Iterator.Search.{all_from_yields_List}
+use lib.Dec.{ltb, eqb}
+use borrow.Author.Tests.{tests}
 use borrow.Author.Rules.{rules}
 use Rattle.paper.specs.Limits.{degree_limit}
-use Rattle.paper.proofs.RangeSteps.{test_failed, test_passed}
+use Rattle.paper.specs.Job.{all_from}
+use Rattle.bits.proofs.RangeAll.{all_range}
 use Rattle.terms.specs.Carried.{exponents_ok}
 use Rattle.terms.proofs.exponents_ok.Goals as goal
+use Rattle.terms.proofs.exponents_ok.Goals.{After-all}
 
-pub returns-then-not-exponent_ok : goal.returns-then-not-exponent_ok
-unfolding exponents_ok
-returns-then-not-exponent_ok c = rw (test_failed c.exponent_ok.ensures c.if-not-exponent_ok.true-raw)
+upper : (c : After-all) → c.all.result ≡ all_from (λ a. ltb a c.args.n || eqb (slice_index c.args.exponents a) 0) 0 4
+upper c =
+    all_from_yields_List (λ a. ltb a c.args.n || eqb (slice_index c.args.exponents a) 0) _ _ _ c.all.ensures.ran
+    (YieldsList-from_range 0 4 4 refl refl) (λ x b q k. search (rules, tests))
+    ∙ all_range _ 0 4
 
-pub returns-then-not-exponent_ok-2 : goal.returns-then-not-exponent_ok-2
-unfolding exponents_ok
-returns-then-not-exponent_ok-2 c =
-    rw (test_passed c.exponent_ok.ensures c.if-not-exponent_ok.false-raw, test_failed c.exponent_ok-2.ensures c.if-not-exponent_ok-2.true-raw)
-
-pub returns-then-not-exponent_ok-3 : goal.returns-then-not-exponent_ok-3
-unfolding exponents_ok
-returns-then-not-exponent_ok-3 c =
-    rw (
-      test_passed c.exponent_ok.ensures c.if-not-exponent_ok.false-raw,
-      test_passed c.exponent_ok-2.ensures c.if-not-exponent_ok-2.false-raw,
-      test_failed c.exponent_ok-3.ensures c.if-not-exponent_ok-3.true-raw,
-    )
-
-pub returns-then-not-exponent_ok-4 : goal.returns-then-not-exponent_ok-4
-unfolding exponents_ok
-returns-then-not-exponent_ok-4 c =
-    rw (
-      test_passed c.exponent_ok.ensures c.if-not-exponent_ok.false-raw,
-      test_passed c.exponent_ok-2.ensures c.if-not-exponent_ok-2.false-raw,
-      test_passed c.exponent_ok-3.ensures c.if-not-exponent_ok-3.false-raw,
-      test_failed c.exponent_ok-4.ensures c.if-not-exponent_ok-4.true-raw,
-    )
-
-pub returns : goal.returns
+pub returns-then-all : goal.returns-then-all
 unfolding exponents_ok degree_limit
-returns c =
-    rw (
-      test_passed c.exponent_ok.ensures c.if-not-exponent_ok.false-raw,
-      test_passed c.exponent_ok-2.ensures c.if-not-exponent_ok-2.false-raw,
-      test_passed c.exponent_ok-3.ensures c.if-not-exponent_ok-3.false-raw,
-      test_passed c.exponent_ok-4.ensures c.if-not-exponent_ok-4.false-raw,
-    )
+returns-then-all c = rw (sym (upper (goal.at.returns-then-all c).After-all) ∙ c.if-all.true, c.degree.ensures)
+
+pub returns-else-all : goal.returns-else-all
+unfolding exponents_ok
+returns-else-all c = rw (sym (upper (goal.at.returns-else-all c).After-all) ∙ c.if-all.false) c.if-all.false

@@ -7,6 +7,6 @@ pub returns-then-n-eq4 : goal.returns-then-n-eq4
 unfolding readable_limit
 returns-then-n-eq4 c = rw (eq-eqb _ _ c.if-n-eq4.true)
 
-pub returns : goal.returns
+pub returns-else-n-eq4 : goal.returns-else-n-eq4
 unfolding readable_limit
-returns c = rw (ne_eqb _ _ c.if-n-eq4.false)
+returns-else-n-eq4 c = rw (ne_eqb _ _ c.if-n-eq4.false)

@@ -16,7 +16,7 @@ pub returns-then-size-bias : goal.returns-then-size-bias
 returns-then-size-bias c =
     sym (value_small c.args.bias c.args.z (omega (arith, size_is (goal.at.returns-then-size-bias c).After-size, c.if-size-bias.true)))
 
-pub returns : goal.returns
-returns c =
+pub returns-else-size-bias : goal.returns-else-size-bias
+returns-else-size-bias c =
     back_is c.requires sum_word
-    ∙ sym (value_large c.args.bias c.args.z (omega (arith, size_is (goal.at.returns c).After-size, c.if-size-bias.false)))
+    ∙ sym (value_large c.args.bias c.args.z (omega (arith, size_is (goal.at.returns-else-size-bias c).After-size, c.if-size-bias.false)))

@@ -2,11 +2,10 @@
 use mathlib.Core.Path.{sym}
 use native.Mathlib.Omega.{arith}
 use Rattle.exact.proofs.Position.{skip_below, skip_above}
-use borrow.Author.Rules.{rules}
 use Rattle.bits.proofs.index.skip.Goals as goal
 
 pub returns-then-i-p : goal.returns-then-i-p
 returns-then-i-p c = (sym (skip_below c.args.p c.args.i c.if-i-p.true), omega arith)
 
-pub returns : goal.returns
-returns c = let e = skip_above c.args.p c.args.i c.if-i-p.false in (omega arith, omega arith)
+pub returns-else-i-p : goal.returns-else-i-p
+returns-else-i-p c = let e = skip_above c.args.p c.args.i c.if-i-p.false in (omega arith, omega arith)

@@ -1,12 +1,8 @@
 -- `bits::masks::axis_of` meets its contract: the trailing zeros are the lowest axis (`lowest_axis`).
 use native.Mathlib.Omega.{arith}
-use lib.Count.{trailing_le}
 use Rattle.curves.specs.Grid.{axes}
 use Rattle.bits.proofs.MaskBits.{lowest_axis}
 use Rattle.bits.proofs.masks.axis_of.Goals as goal
-
-pub overflow_cast-result : goal.overflow_cast-result
-overflow_cast-result c = record { fits = omega (arith, trailing_le 64 c.args.mask) }
 
 pub returns : goal.returns
 unfolding axes

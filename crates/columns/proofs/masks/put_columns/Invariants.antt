@@ -1,11 +1,6 @@
--- `columns::masks::put_columns` meets its contract. The loop's invariant: the columns under k are in, and every cell is within the limit.
-use Prim.Native.Nat.{◌≤◌, ◌-◌}
-use Rattle.columns.specs.Vertices.{vertex_at}
-use Rattle.columns.proofs.PutColumns.{Filling}
+-- The loop's invariant: the columns under k are in, and every cell is within the limit.
+use Rattle.columns.proofs.PutColumns.{vertex_of, Filling}
 use Rattle.columns.proofs.masks.put_columns.Given as goal
 
 abbrev pub invariant-loop-k : goal.invariant-loop-k
-invariant-loop-k l = (l.k ≤ l.count) × Filling l.job l.n (vertex_at l.n l.base l.m1 l.m2 l.m3 l.m4) l.initial.cells l.k l.cells
-
-abbrev pub decreases-loop-k : goal.decreases-loop-k
-decreases-loop-k l = l.count - l.k
+invariant-loop-k l = Filling l.job.bytes.now l.job.n (vertex_of l.job.n l.base l.masks) l.initial.cells l.k l.cells

@@ -1,12 +1,9 @@
--- `least::order::facet_before` meets its contract: the coordinates, then the masks.
-use borrow.Author.Rules.{rules}
-use Rattle.places.proofs.VertexBack.{vertex_back}
-use Rattle.least.proofs.FacetOrder.{facet_compared}
+-- `least::order::facet_before` meets its contract: the coordinates are compared as slices, and behind them the masks.
+use Rattle.std.proofs.Common.{◌≡◌, arith, length, take}
+use Rattle.least.proofs.FacetOrder.{facets_compared}
 use Rattle.least.proofs.order.facet_before.Goals as goal
 
 pub returns : goal.returns
 returns c =
-    facet_compared _ _ _ c.requires (vertex_back c.args.p.low c.struct_told-1.given)
-    (vertex_back c.args.q.low c.struct_told-2-1.given) c.mask_decides-third.ensures c.mask_decides-second.ensures
-    c.mask_decides-first.ensures c.coordinate_decides-w.ensures c.coordinate_decides-z.ensures c.coordinate_decides-y.ensures
-    c.coordinate_decides.ensures
+    let same : length (take c.args.n c.args.p.low.coordinates) ≡ length (take c.args.n c.args.q.low.coordinates) = grind arith in
+    rw (c.is_lt.ensures, c.then.ensures, c.cmp-lows.ensures, c.cmp-masks.ensures) (facets_compared c.args.n c.args.p c.args.q same)

@@ -1,6 +1,5 @@
 -- `least::search::turned` meets its contract.
-use borrow.Author.Rules.{rules}
-use mathlib.Core.Path.{refl}
+use Rattle.std.proofs.Common.{refl}
 use Rattle.curves.specs.Grid.{turn}
 use Rattle.places.specs.Held.{masks_as, facet_as, place_as}
 use Rattle.least.proofs.search.turned.Goals as goal

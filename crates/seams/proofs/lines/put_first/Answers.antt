@@ -3,7 +3,6 @@ use mathlib.Core.Path.{refl}
 use native.Mathlib.Omega.{arith}
 use Rattle.decimals.proofs.WrittenParts.{writes_then, writes_as}
 use Rattle.seamlist.specs.SeamText.{seams_first_line}
-use borrow.Author.Rules.{rules}
 use Rattle.seams.proofs.lines.put_first.Goals as goal
 
 pub returns : goal.returns

@@ -1,33 +1,27 @@
--- `seams::lines::put_opened` meets its contract: refused, or the seams that are listed, all of them or as many as there is space for.
-use mathlib.Core.Path.{◌∙◌}
-use native.Mathlib.Omega.{arith}
-use Rattle.decimals.proofs.WrittenParts.{writes_as}
-use Rattle.seams.proofs.TextCases.{lines_refused, listed_complete, listed_full}
-use borrow.Author.Rules.{rules}
+-- `seams::lines::put_opened` meets its contract: the first line, then the lines of the seams.
+use Prim.Native.Nat.{zero-le}
+use Rattle.std.proofs.Common.{◌∙◌, arith}
+use Rattle.paper.specs.Demand3.{read_places}
+use Rattle.decimals.proofs.WrittenParts.{writes_then, writes_as}
+use Rattle.seamlist.specs.SeamText.{seam_lines}
+use Rattle.seams.proofs.SeamsListed.{count_within, listed_lines}
+use Rattle.seams.proofs.TextCases.{list_lines}
 use Rattle.seams.proofs.lines.put_opened.Goals as goal
 
-pub put_list-requires : goal.put_list-requires
-put_list-requires c =
-    let l = c.seams_listed in (
-      c.requires.0,
-      (
-        listed_complete c.args.job.now _ l.ensures c.in-Complete.is,
-        (l.auto.places ∙ c.requires.1.0, c.requires.1.1),
-      ),
+pub put_seams-requires : goal.put_seams-requires
+put_seams-requires c =
+    let j = c.args.job.opened in
+    let l = c.seams_listed-found in
+    let f = c.put_first-at in (
+      listed_lines j l.new.places l.result l.ensures (l.auto.places ∙ c.requires.0),
+      omega (arith, c.requires.1, f.ensures, f.auto, count_within j l.new.places l.result l.ensures),
     )
 
-pub put_list-requires-in-Full : goal.put_list-requires-in-Full
-put_list-requires-in-Full c =
-    let l = c.seams_listed in (
-      c.requires.0,
-      (
-        listed_full c.args.job.now _ l.ensures c.in-Full.is,
-        (l.auto.places ∙ c.requires.1.0, c.requires.1.1),
-      ),
-    )
-
-pub returns-in-Refused : goal.returns-in-Refused
-returns-in-Refused c =
-    let l = c.seams_listed in
-    writes_as (lines_refused c.args.job.now _ l.ensures c.in-Refused.is) (omega arith)
-    c.put_refused.ensures
+pub returns : goal.returns
+returns c =
+    let j = c.args.job.opened in
+    let l = c.seams_listed-found in
+    writes_as (list_lines c.args.job.bytes.now l.new.places l.result l.ensures j.dimension)
+    (omega (arith, count_within j l.new.places l.result l.ensures))
+    (writes_then zero-le c.put_first-at.ensures
+    {u = seam_lines c.args.job.bytes.now (read_places c.args.job.n l.result.count l.new.places)} (λ i. c.put_seams.ensures))

@@ -4,7 +4,6 @@ use mathlib.Core.List.{[]}
 use Prim.Native.Nat.{◌+◌, ◌^◌}
 use native.Mathlib.Omega.{arith}
 use native.Mathlib.Numerals.{add-one}
-use borrow.Author.Rules.{rules}
 use Rattle.curves.specs.Grid.{axes}
 use Rattle.curves.proofs.MaskAxes.{axes_power}
 use Rattle.table.specs.Table.{order_at, axis_at, vertex_mask}

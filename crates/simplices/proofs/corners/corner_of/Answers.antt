@@ -12,6 +12,6 @@ returns-then-out-eq0 c n row digits =
     corner_lowered c.args.p.low (order_at n row) c.args.out
     c.if-out-eq0.true (c.digit.ensures ∙ digits.at 1 (omega arith)) (search rules)
 
-pub returns : goal.returns
-returns c n row digits =
+pub returns-else-out-eq0 : goal.returns-else-out-eq0
+returns-else-out-eq0 c n row digits =
     corner_same c.args.p.low (order_at n row) c.args.out c.if-out-eq0.false

@@ -1,13 +1,8 @@
 -- `simplices::corners::next` meets its contract: the place of the facet without vertex `out`, turned.
 use mathlib.Core.Path.{ap}
-use native.Mathlib.Omega.{arith}
-use borrow.Author.Rules.{rules}
 use Rattle.curves.specs.Grid.{turn}
 use Rattle.places.specs.Held.{masks_as, facet_as, place_as}
 use Rattle.simplices.proofs.corners.next.Goals as goal
-
-pub overflow_sub-p : goal.overflow_sub-p
-overflow_sub-p c = omega (arith, c.place_at-p.ensures.0)
 
 pub returns : goal.returns
 unfolding place_as facet_as masks_as turn

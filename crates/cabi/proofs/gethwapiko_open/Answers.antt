@@ -1,7 +1,0 @@
--- `cabi::gethwapiko_open` meets its contract: the numbers of what Open answers.
-use mathlib.Core.Path.{ap, ◌∙◌}
-use Rattle.jobnumbers.specs.Numbers.{open_numbers}
-use Rattle.cabi.proofs.gethwapiko_open.Goals as goal
-
-pub returns : goal.returns
-returns c = c.open_numbers.ensures ∙ ap open_numbers c.«open».ensures

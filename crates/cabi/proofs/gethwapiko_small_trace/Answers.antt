@@ -1,8 +1,0 @@
--- `cabi::gethwapiko_small_trace` meets its contract: the numbers of what the small cutter's Trace answers, and the buffer as it
--- left it.
-use mathlib.Core.Path.{ap, ◌∙◌}
-use Rattle.walknumbers.specs.Numbers.{trace_numbers}
-use Rattle.cabi.proofs.gethwapiko_small_trace.Goals as goal
-
-pub returns : goal.returns
-returns c = record { answer = c.trace_numbers.ensures ∙ ap trace_numbers c.trace.ensures.answer; written = c.trace.ensures.written }

@@ -1,2 +1,0 @@
--- A law that the proof of a function cites.
-pub mod Answers

@@ -1,0 +1,41 @@
+-- `listing::lines::put_places` meets its contract: each turn writes the line of one place.
+use Rattle.std.proofs.Common.{◌≡◌, ◌*◌, ◌+◌, ◌-◌, ◌≤◌, length, arith, rules}
+use Rattle.input.proofs.Lines.{going_begins, line_fits, going_on, going_ends}
+use Rattle.listing.proofs.PlacesShown.{line_at}
+use Rattle.listing.proofs.TraceListed.{job_range}
+use Rattle.listing.proofs.lines.put_places.Goals as goal
+
+pub overflow_mul-width : goal.overflow_mul-width
+overflow_mul-width c = omega (arith, job_range c.args.job.opened)
+
+pub overflow_mul-i : goal.overflow_mul-i
+overflow_mul-i c = omega (arith, (line_at _ c.requires.0 c.loop-i.i c.loop-i-test.true).room, c.well_formed)
+
+pub overflow_mul-i-in-loop-i : goal.overflow_mul-i-in-loop-i
+overflow_mul-i-in-loop-i c = omega (arith, (line_at _ c.requires.0 c.loop-i.i c.loop-i-test.true).room, c.well_formed)
+
+pub overflow_add-i : goal.overflow_add-i
+overflow_add-i c = omega (arith, (line_at _ c.requires.0 c.loop-i.i c.loop-i-test.true).room, c.well_formed)
+
+pub slice_bounds-put_line-end : goal.slice_bounds-put_line-end
+slice_bounds-put_line-end c =
+    let w = 3 * c.args.job.n in
+    let inside : c.loop-i.i * (3 * c.args.job.n) + 3 * c.args.job.n ≤ length c.args.places.now = (line_at _ c.requires.0 c.loop-i.i c.loop-i-test.true).room in
+    search rules
+
+pub loop-i-init : goal.loop-i-init
+loop-i-init c = going_begins _ _ _ _ _ _ _ _ _ _ c.requires.1
+
+pub put_line-end-requires : goal.put_line-end-requires
+put_line-end-requires c =
+    let at = line_at _ c.requires.0 c.loop-i.i c.loop-i-test.true in
+    let w : c.loop-i.i * (3 * c.args.job.n) + 3 * c.args.job.n - c.loop-i.i * (3 * c.args.job.n) ≡ 3 * c.args.job.n = omega arith in
+    (rw (w) at.line, line_fits _ _ _ _ _ _ _ _ _ _ c.loop-i.invariant c.loop-i-test.true)
+
+pub loop-i-preserved : goal.loop-i-preserved
+loop-i-preserved c =
+    let w : c.loop-i.i * (3 * c.args.job.n) + 3 * c.args.job.n - c.loop-i.i * (3 * c.args.job.n) ≡ 3 * c.args.job.n = omega arith in
+    going_on _ _ _ _ _ _ _ _ _ _ c.loop-i.invariant c.loop-i-test.true (rw (w) at c.put_line-end.ensures) c.put_line-end.auto.out
+
+pub returns : goal.returns
+returns c = going_ends _ _ _ _ _ _ _ _ _ _ c.loop-i.invariant c.loop-i-test.false
