@@ -86,7 +86,10 @@ pub fn same_facet(n: usize, p: HeldPlace, q: HeldPlace) -> bool
     ensures { result ≡ on_same_facet (place_as n p) (place_as n q) }
 {
     let masks = n - 1;
-    p.low.coordinates[..n] == q.low.coordinates[..n] && p.masks[..masks] == q.masks[..masks]
+    // Along a trace nearly all lowest vertices differ from the start's on axis 1, and no more is looked at then.
+    p.low.coordinates[0] == q.low.coordinates[0]
+        && p.low.coordinates[..n] == q.low.coordinates[..n]
+        && p.masks[..masks] == q.masks[..masks]
 }
 
 // ---- the public answer
