@@ -25,7 +25,8 @@ fn mask_from(masks: u16, base: u64, out: usize, i: usize) -> u64
     table::digit(masks, skip(out, i)).saturating_sub(base)
 }
 
-// Its three masks; 0 where it has no further vertex.
+// Its three masks; 0 where it has no further vertex. Inlined: at each place of a trace the array would else be stored and copied.
+#[inline(always)]
 pub(crate) fn masks_from(masks: u16, base: u64, out: usize) -> [u64; 3]
     ensures { (n row : ℕ) → InTable n row → MasksAre n row masks → out ≤ n → base ≡ vertex_mask (order_at n row) (skip out 0) → result ≡ facet_masks n row out }
 {
