@@ -9,7 +9,9 @@ use mathlib.Core.Logic.{⊎_elim}
 use native.Mathlib.Omega.{arith}
 use lib.ListN.{length, get_or, take}
 use lib.Dec.{eqb}
-use borrow.Author.Tests.{eqb-true, eq-eqb}
+use borrow.Author.Tests.{eqb-true, eq-eqb, ne_eqb}
+use Rattle.std.proofs.lemmas.Bool.{cases_Bool}
+use Rattle.std.proofs.lemmas.List.{get_or-take}
 use Rattle.exact.proofs.AndTests.{and_left, and_right, and-true}
 use Rattle.curves.specs.Grid.{Place, Incidence, place_at, place_of, place_ok, incidence, same_masks, orders}
 use Rattle.curves.specs.Curve.{◌∈◌}
@@ -33,12 +35,28 @@ use Rattle.simplices.specs.Search.{matches, Found}
 
 -- ---- the masks, and then the side
 
--- the masks that count, compared by the library
-pub masks_decide : {n row out : ℕ} (p : HeldPlace) → InTable n row → out ≤ n → {masks : List ℕ} → masks ≡ facet_masks n row out
-    → pointwise eqb (take (n - 1) masks) (masks_as n p) ≡ same_masks (masks_at n row out) (masks_as n p)
-masks_decide {n} {row} {out} p h l {masks} e =
-    masks_compared (take (n - 1) masks) (masks_as n p)
-    ∙ ap (λ ms. same_masks ms (masks_as n p)) (ap (take (n - 1)) e ∙ sym (masks_are n row out h l))
+-- the masks that count, as the table has them, compared by the library
+module _ {n row out : ℕ} (p : HeldPlace) (h : InTable n row) (l : out ≤ n) {masks : List ℕ} (e : masks ≡ facet_masks n row out) where
+  read : take (n - 1) masks ≡ masks_at n row out
+  read = ap (take (n - 1)) e ∙ sym (masks_are n row out h l)
+
+  pub masks_decide : pointwise eqb (take (n - 1) masks) (masks_as n p) ≡ same_masks (masks_at n row out) (masks_as n p)
+  masks_decide = masks_compared (take (n - 1) masks) (masks_as n p) ∙ ap (λ ms. same_masks ms (masks_as n p)) read
+
+  same_first : same_masks (masks_at n row out) (masks_as n p) ≡ true → get_or masks 0 0 ≡ get_or p.masks 0 0
+  unfolding masks_as
+  same_first t =
+      let counts : 0 < n - 1 = omega (arith, h.axes.low) in
+      sym (get_or-take (n - 1) masks 0 0 counts)
+      ∙ ap (λ ms. get_or ms 0 0) (read ∙ same_masks_sound (masks_at n row out) (masks_as n p) t)
+      ∙ get_or-take (n - 1) p.masks 0 0 counts
+
+  -- where the first ones differ, that is the answer
+  pub first_decides : (get_or masks 0 0 ≡ get_or p.masks 0 0 → ⊥)
+      → eqb (get_or masks 0 0) (get_or p.masks 0 0) ≡ same_masks (masks_at n row out) (masks_as n p)
+  first_decides other =
+      ne_eqb (get_or masks 0 0) (get_or p.masks 0 0) other
+      ∙ ⊎_elim (λ t. absurd (other (same_first t))) sym (cases_Bool (same_masks (masks_at n row out) (masks_as n p)))
 
 module _
     (n row out : ℕ) (p : HeldPlace) {same : Bool} (is_same : same ≡ same_masks (masks_at n row out) (masks_as n p)) where

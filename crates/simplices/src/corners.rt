@@ -28,9 +28,7 @@ pub fn next(n: usize, corner: Vertex, masks: u16, out: usize) -> HeldPlace
     requires { (n ≤ 4) × ((out ≤ n) × (VertexSize move_limit corner)) }
     ensures { (row : ℕ) → InTable n row → MasksAre n row masks → PlaceIs n corner row out (turn (place_at (vertex_as n corner) (order_at n row) out)) result }
 {
-    let p = place::place_at(n, corner, masks, out);
-    HeldPlace {
-        side: 1 - p.side,
-        ..p
-    }
+    let mut p = place::place_at(n, corner, masks, out);
+    p.side = 1 - p.side;
+    p
 }
