@@ -39,8 +39,11 @@ fn put_vertex(buffer: &mut [u8], at: usize, n: usize, v: Vertex)
     requires { (Axes n) × ((every short (vertex_as n v) ≡ true) × (at + 2 * n ≤ length buffer.old)) }
     ensures { buffer.new ≡ sets buffer.old at (vertex_bytes (vertex_as n v)) }
 {
-    for a in 0..n {
-        put_word(buffer, at + 2 * a, v.coordinates[a]);
+    // A trace writes a place at each turn: with a bound that is a constant the loop is unrolled.
+    for a in 0..4 {
+        if a < n {
+            put_word(buffer, at + 2 * a, v.coordinates[a]);
+        }
     }
 }
 
@@ -49,8 +52,12 @@ fn put_masks(buffer: &mut [u8], at: usize, n: usize, p: HeldPlace)
     requires { (Axes n) × ((chain n 0 (masks_as n p) ≡ true) × (at + (n - 1) ≤ length buffer.old)) }
     ensures { buffer.new ≡ sets buffer.old at (masks_as n p) }
 {
-    for k in 0..n - 1 {
-        put_byte(buffer, at + k, p.masks[k]);
+    let masks = n - 1;
+    // A constant bound, as in `put_vertex`.
+    for k in 0..3 {
+        if k < masks {
+            put_byte(buffer, at + k, p.masks[k]);
+        }
     }
 }
 
