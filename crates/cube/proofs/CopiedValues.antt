@@ -1,17 +1,19 @@
--- The values of one vertex, copied over those of another.
-use mathlib.Core.Path.{◌≡◌, refl, sym, ap, subst, ◌∙◌}
+-- The values of one vertex while they are copied over those of another, one number after the other.
+use mathlib.Core.Path.{◌≡◌, refl, ap, ◌∙◌}
 use mathlib.Core.Bool.{Bool, true, false}
-use mathlib.Core.List.{List, ◌∷◌, ◌++◌}
-use Prim.Native.Nat.{ℕ, ◌+◌, ◌*◌, ◌-◌, ◌^◌, ◌≤◌, ◌<◌}
+use mathlib.Core.List.{List, ◌∷◌}
+use Prim.Native.Nat.{ℕ, suc, ◌+◌, ◌*◌, ◌-◌, ◌^◌, ◌≤◌, ◌<◌}
 use native.Mathlib.Omega.{arith}
 use lib.IntN.{ℤ}
-use lib.Dec.{lit≤, ltb}
-use lib.ListN.{length, get_or, take, drop}
-use borrow.Author.Tests.{ltb-true, ltb-false}
-use borrow.Rule.Slice.PartMut.{put_mid}
-use Rattle.std.proofs.lemmas.List.{length-append, length-take, length-drop, get_or_append_left, get_or-append_right, get_or-take, get_or-drop}
+use lib.Dec.{lit≤, eqb}
+use lib.ListN.{length, get_or, set}
+use borrow.Author.Count.{below_none, below_more}
+use borrow.Author.Tests.{eqb-true, eqb-false}
+use Rattle.std.proofs.Common.{length-set}
+use Rattle.std.proofs.lemmas.List.{get_or-set_same, get_or-set_other}
 use Rattle.exact.specs.Int.{0ℤ, 1ℤ}
 use Rattle.exact.specs.Size.{Size}
+use Rattle.exact.proofs.Bits.{back, back_is}
 use Rattle.exact.proofs.CountFrom.{map_count_from_ext}
 use Rattle.paper.specs.Limits.{readable_limit}
 use Rattle.bits.specs.Axes.{Axes}
@@ -23,69 +25,57 @@ pub entry_word : (n : ℕ) → Axes n → entry_limit n ≤ 2 ^ 63 - 1
 unfolding entry_limit readable_limit
 entry_word = each_axes (λ n. entry_limit n ≤ 2 ^ 63 - 1) (lit≤ tt) (lit≤ tt) (lit≤ tt)
 
--- ---- a part of a list written over
+-- of the first k numbers those that count are copied, and all others are as before
+pub record Copying (n : ℕ) (from : List ℤ) (i : ℕ) (before : List ℤ) (j k : ℕ) (here : List ℤ) : Type 0 where
+  pub count : length here ≡ length before
+  pub within : Within n here
+  pub copied : (q : ℕ) → q < k → suc q < n → get_or here (3 * j + q) 0ℤ ≡ get_or from (3 * i + q) 0ℤ
+  pub lower : (q : ℕ) → q < 3 * j → get_or here q 0ℤ ≡ get_or before q 0ℤ
+  pub upper : (q : ℕ) → 3 * j + (n - 1) ≤ q → get_or here q 0ℤ ≡ get_or before q 0ℤ
 
-module _ (xs ys : List ℤ) (a k : ℕ) (e : length ys ≡ k) (room : a + k ≤ length xs) where
-  part_length : length (put_mid a k xs ys) ≡ length xs
-  part_length = omega (arith, length-append (take a xs) (ys ++ drop k (drop a xs)), length-append ys (drop k (drop a xs)), length-take a xs, length-drop k (drop a xs), length-drop a xs)
+pub copying_none : {n i j : ℕ} {from before : List ℤ} → Within n before → Copying n from i before j 0 before
+copying_none w = record { count = refl; within = w; copied = below_none _; lower = λ q l. refl; upper = λ q l. refl }
 
-  front : length (take a xs) ≡ a
-  front = omega (arith, length-take a xs)
+module _ {n : ℕ} (a : Axes n) {from before here : List ℤ} {i j : ℕ} (w : Within n from) (k : ℕ) (room : 3 * j + k < length before)
+    (g : Copying n from i before j k here) where
+  -- the code reads the number as its bits
+  abbrev after : List ℤ
+  after = set here (3 * j + k) (back (get_or from (3 * i + k) 0ℤ))
 
-  part_before : (q : ℕ) → q < a → get_or (put_mid a k xs ys) q 0ℤ ≡ get_or xs q 0ℤ
-  part_before q l = get_or_append_left (take a xs) (ys ++ drop k (drop a xs)) 0ℤ q (omega (arith, front)) ∙ get_or-take a xs q 0ℤ l
+  there : get_or after (3 * j + k) 0ℤ ≡ get_or from (3 * i + k) 0ℤ
+  there =
+      get_or-set_same here (3 * j + k) (back (get_or from (3 * i + k) 0ℤ)) 0ℤ (omega (arith, g.count))
+      ∙ back_is (w.entries (3 * i + k)) (entry_word n a)
 
-  part_inside : (q : ℕ) → q < k → get_or (put_mid a k xs ys) (a + q) 0ℤ ≡ get_or ys q 0ℤ
-  part_inside q l =
-      let here : a + q - a ≡ q = omega arith in
-      get_or-append_right (take a xs) (ys ++ drop k (drop a xs)) a (a + q) 0ℤ front (omega arith)
-      ∙ ap (λ (p : ℕ). get_or (ys ++ drop k (drop a xs)) p 0ℤ) here ∙ get_or_append_left ys (drop k (drop a xs)) 0ℤ q (omega arith)
+  else_kept : (q : ℕ) → (q ≡ 3 * j + k → ⊥) → get_or after q 0ℤ ≡ get_or here q 0ℤ
+  else_kept q d = get_or-set_other here (3 * j + k) q (back (get_or from (3 * i + k) 0ℤ)) 0ℤ d
 
-  part_behind : (q : ℕ) → a + k ≤ q → get_or (put_mid a k xs ys) q 0ℤ ≡ get_or xs q 0ℤ
-  part_behind q l =
-      let here : a + (k + (q - a - k)) ≡ q = omega arith in
-      get_or-append_right (take a xs) (ys ++ drop k (drop a xs)) a q 0ℤ front (omega arith)
-      ∙ get_or-append_right ys (drop k (drop a xs)) k (q - a) 0ℤ e (omega arith)
-      ∙ get_or-drop k (drop a xs) (q - a - k) 0ℤ ∙ get_or-drop a xs (k + (q - a - k)) 0ℤ
-      ∙ ap (λ (p : ℕ). get_or xs p 0ℤ) here
+  pub copying_next : k < n - 1 → Copying n from i before j (k + 1) after
+  copying_next h = record {
+    count = length-set here (3 * j + k) (back (get_or from (3 * i + k) 0ℤ)) ∙ g.count;
+    within = record { entries = λ q. go q (eqb q (3 * j + k)) refl };
+    copied = below_more _ k (λ q l u. else_kept (3 * j + q) (λ e. omega arith) ∙ g.copied q l u) (λ u. there);
+    lower = λ q l. else_kept q (λ e. omega arith) ∙ g.lower q l;
+    upper = λ q l. else_kept q (λ e. omega arith) ∙ g.upper q l;
+  }
+    where
+      go : (q : ℕ) (b : Bool) → eqb q (3 * j + k) ≡ b → Size (entry_limit n) (get_or after q 0ℤ)
+      go q true e = rw (eqb-true q (3 * j + k) e, there) (w.entries (3 * i + k))
+      go q false e = rw (else_kept q (eqb-false q (3 * j + k) e)) (g.within.entries q)
 
--- ---- the values of one vertex
+-- a number that does not count stays
+pub copying_past : {n i j : ℕ} {from before here : List ℤ} (k : ℕ) → n - 1 ≤ k → Copying n from i before j k here → Copying n from i before j (k + 1) here
+copying_past k l g = record { count = g.count; within = g.within; copied = below_more _ k g.copied (λ u. absurd (omega arith)); lower = g.lower; upper = g.upper }
 
--- the list that is copied is a part of another
-part_of_from : (from ys : List ℤ) (a k m : ℕ) → ys ≡ take m (drop a from) → m ≡ k → a + k ≤ length from
-    → (length ys ≡ k) × ((q : ℕ) → q < k → get_or ys q 0ℤ ≡ get_or from (a + q) 0ℤ)
-part_of_from from ys a k m is same inside = (
-  ap length is ∙ omega (arith, length-take m (drop a from), length-drop a from),
-  λ q l. ap (λ zs. get_or zs q 0ℤ) is ∙ get_or-take m (drop a from) q 0ℤ (omega arith) ∙ get_or-drop a from q 0ℤ,
-)
-
-pub values_copied : {n : ℕ} {from before : List ℤ} (i j k m : ℕ) {ys : List ℤ} → Within n from → Within n before → k ≡ n - 1
-    → ys ≡ take m (drop (3 * i) from) → m ≡ k → 3 * i + k ≤ length from → 3 * j + k ≤ length before
-    → ValuesCopied n from i before j (put_mid (3 * j) k before ys)
+-- all of them are
+pub copying_all : {n i j : ℕ} {from before here : List ℤ} (k : ℕ) → n ≤ k + 1 → Copying n from i before j k here → ValuesCopied n from i before j here
 unfolding column_at
-values_copied {n} {from} {before} i j k m {ys} w v many is same inside room = record {
-  count = part_length before ys (3 * j) k long room;
-  within = record { entries = λ q. go q (ltb q (3 * j)) (ltb q (3 * j + k)) refl refl };
+copying_all {n} {i} {j} {from} {before} {here} k l g = record {
+  count = g.count;
+  within = g.within;
   copied =
       ap (λ l. 1ℤ ∷ l)
-      (map_count_from_ext (λ q. get_or after (3 * j + q) 0ℤ) (λ q. get_or from (3 * i + q) 0ℤ) 0 (n - 1) (λ q a b. value_is q (omega arith)));
-  lower = part_before before ys (3 * j) k long room;
-  upper = λ q b. part_behind before ys (3 * j) k long room q (omega arith);
+      (map_count_from_ext (λ q. get_or here (3 * j + q) 0ℤ) (λ q. get_or from (3 * i + q) 0ℤ) 0 (n - 1) (λ q a b. g.copied q (omega arith) (omega arith)));
+  lower = g.lower;
+  upper = g.upper;
 }
-  where
-    long : length ys ≡ k
-    long = (part_of_from from ys (3 * i) k m is same inside).0
-
-    after : List ℤ
-    after = put_mid (3 * j) k before ys
-
-    value_is : (q : ℕ) → q < k → get_or after (3 * j + q) 0ℤ ≡ get_or from (3 * i + q) 0ℤ
-    value_is q l = part_inside before ys (3 * j) k long room q l ∙ (part_of_from from ys (3 * i) k m is same inside).1 q l
-
-    go : (q : ℕ) (b c : Bool) → ltb q (3 * j) ≡ b → ltb q (3 * j + k) ≡ c → Size (entry_limit n) (get_or after q 0ℤ)
-    go q true c e f = rw (part_before before ys (3 * j) k long room q (ltb-true q (3 * j) e)) (v.entries q)
-    go q false true e f =
-        let at : q ≡ 3 * j + (q - 3 * j) = omega (arith, ltb-false q (3 * j) e) in
-        subst (λ (p : ℕ). Size (entry_limit n) (get_or after p 0ℤ)) (sym at)
-        (rw (value_is (q - 3 * j) (omega (arith, ltb-false q (3 * j) e, ltb-true q (3 * j + k) f))) (w.entries (3 * i + (q - 3 * j))))
-    go q false false e f = rw (part_behind before ys (3 * j) k long room q (ltb-false q (3 * j + k) f)) (v.entries q)

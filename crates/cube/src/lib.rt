@@ -14,13 +14,19 @@ ghost use Rattle.cube.specs.Cube.{Within, ValuesCopied, CornerPut, Cube, FacetTa
 use job::OpenJob;
 use paper::{HeldPlace, Vertex};
 
-// The values of vertex i of some columns, copied as those of vertex j of others.
+// The values of vertex i of some columns, copied as those of vertex j of others: one to three numbers, for each corner of each cube. The library's
+// copy of a slice would be a call; a loop with a bound that is a constant is unrolled.
 fn copy_values(n: usize, from: &[i64], i: usize, to: &mut [i64], j: usize)
     requires axes { (Axes n) × ((Within n from.now) × (Within n to.old)) }
     requires i_in_bounds { (3 * i + 3 ≤ length from.now) × ((3 * j + 3 ≤ length to.old) × ((length from.now ≤ 48) × (length to.old ≤ 48))) }
     ensures { ValuesCopied n from.now i to.old j to.new }
 {
-    to[3 * j..3 * j + n - 1].copy_from_slice(&from[3 * i..3 * i + n - 1]);
+    let count = n - 1;
+    for k in 0..3 {
+        if k < count {
+            to[3 * j + k] = from[3 * i + k];
+        }
+    }
 }
 
 // The corner v + m: whether it lies in the box with readable values, and then its values.

@@ -1,20 +1,21 @@
 -- The box, axis by axis: a vertex is inside if each of its coordinates is; and a vertex inside the box of a job that opens has coordinates
 -- within the limit of the box's ends.
-use Rattle.std.proofs.Common.{ℕ, suc, zero, ◌+◌, ◌≤◌, ◌<◌, ◌≡◌, refl, sym, ap, ◌∙◌, arith, subst, Bool, true, false, ◌&&◌, ap₂, zero-add, List, [], ◌∷◌, ℤ, length, get_or, IsTrue, ◌↔◌}
+use Rattle.std.proofs.Common.{ℕ, suc, zero, ◌+◌, ◌≤◌, ◌<◌, ◌≡◌, refl, sym, ap, ◌∙◌, arith, subst, Bool, true, false, ◌&&◌, ◌||◌, ap₂, zero-add, List, [], ◌∷◌, ℤ, length, get_or}
 use Rattle.std.proofs.lemmas.Bool.Decides.{same_from_decides}
 use Rattle.std.proofs.lemmas.List.{length-take, length-take-le, get_or-take, get_or_past}
-use lib.Dec.{ltb, lit≤}
+use lib.Dec.{ltb, leb, lit≤}
 use lib.Signed.{le_z}
 use mathlib.Core.Bool.{and_assoc}
-use borrow.Author.Tests.{ltb-true, ltb-false}
+use borrow.Author.Tests.{ltb-true, ltb-false, lt-leb, leb-false}
 use Rattle.exact.proofs.AndTests.{and_left, and_right, and-true}
 use Rattle.exact.specs.Int.{0ℤ}
 use Rattle.exact.specs.Size.{Size, Is}
 use Rattle.exact.proofs.Bits.{back, holds_call}
 use Rattle.paper.specs.Limits.{coordinate_limit}
-use Rattle.paper.specs.Job.{box_ok, low_end, high_end}
+use Rattle.paper.specs.Job.{box_ok, low_end, high_end, all_from}
 use Rattle.paper.specs.Values.{inside_from}
 use Rattle.paper.proofs.Terms.{box_axis, between_size}
+use Rattle.paper.proofs.Tests.{all_at, all_from_lem}
 use Rattle.paper.specs.declared.Vertex.{Vertex}
 use Rattle.bits.specs.Axes.{Axes}
 use Rattle.places.specs.Held.{vertex_as}
@@ -84,8 +85,22 @@ module _ (b : List ℕ) (n : ℕ) (v : Vertex) (c : length v.coordinates ≡ 4) 
   to_each : inside_from b 0 (vertex_as n v) ≡ true → Each
   to_each h a l = sym (number b n v a l) ∙ inside_each b 0 (vertex_as n v) h a (omega (arith, count))
 
-  pub all_inside : (r : Bool) → IsTrue r ↔ Each → r ≡ inside_from b 0 (vertex_as n v)
-  all_inside r h = same_from_decides r (inside_from b 0 (vertex_as n v)) h (to_each, from_each)
+  -- the code tests all four axes, and those from n on pass
+  abbrev test : ℕ → Bool
+  test a = leb n a || axis_inside b a (get_or v.coordinates a 0ℤ)
+
+  from_tests : all_from test 0 4 ≡ true → Each
+  from_tests h a l = rw (lt-leb n a l) at (all_at test 0 4 a h (omega arith) (omega arith))
+
+  to_tests : Each → all_from test 0 4 ≡ true
+  to_tests h = all_from_lem test 0 4 (λ a l u. go a (leb n a) refl)
+    where
+      go : (a : ℕ) (r : Bool) → leb n a ≡ r → test a ≡ true
+      go a true e = rw e refl
+      go a false e = rw e (h a (leb-false n a e))
+
+  pub all_inside : (r : Bool) → r ≡ all_from test 0 4 → r ≡ inside_from b 0 (vertex_as n v)
+  all_inside r e = e ∙ same_from_decides (all_from test 0 4) (inside_from b 0 (vertex_as n v)) (from_tests, to_tests) (to_each, from_each)
 
 -- ---- the box of a job that opens
 

@@ -13,7 +13,9 @@ ghost use Rattle.lattice.specs.Box.{axis_inside};
 use bits::read;
 use paper::Vertex;
 
-// The vertex with a step, 1 or − 1, added on each axis of a mask.
+// The vertex with a step, 1 or − 1, added on each axis of a mask. Inlined: a trace calls it in two places, each with a step that is a constant,
+// and then nothing is multiplied.
+#[inline(always)]
 fn moved(v: Vertex, mask: u64, step: i64) -> Vertex
     requires { (VertexSize move_limit v) × (Size 1 step) }
     ensures { result.coordinates ≡ moved_by step v.coordinates mask }
@@ -49,10 +51,10 @@ fn axis_inside(bounds: &[u8], axis: usize, x: i64) -> bool
     read::signed_word(bounds, 4 * axis) <= x && x <= read::signed_word(bounds, 4 * axis + 2)
 }
 
-// A vertex lies in the box.
+// A vertex lies in the box. A trace tests a vertex at each turn: with a bound that is a constant the loop is unrolled.
 pub fn inside(bounds: &[u8], n: usize, v: Vertex) -> bool
     requires { (Axes n) × (length bounds.now ≡ 4 * n) }
     ensures { result ≡ inside_from bounds.now 0 (vertex_as n v) }
 {
-    (0..n).all(|axis| axis_inside(bounds, axis, v.coordinates[axis]))
+    (0..4).all(|axis| n <= axis || axis_inside(bounds, axis, v.coordinates[axis]))
 }

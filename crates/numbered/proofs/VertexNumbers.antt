@@ -1,7 +1,7 @@
 -- The vertex with a number: the number divided axis by axis is the vertex of the definition, and no axis has many steps.
 use Rattle.std.proofs.Common.{ℕ, zero, suc, ◌+◌, ◌/◌, ◌%◌, ◌^◌, ◌≤◌, ◌<◌, ◌≡◌, ◌≢◌, refl, sym, ap, ap₂, subst, ◌∙◌, arith, List, [], ◌∷◌, ◌++◌, ℤ, pos, ◌+ℤ◌, length, take, drop, set, get_or, length-set, append-nil, append_assoc}
 use Rattle.std.proofs.lemmas.List.{drop_more, drop_all, take_all, take_more_set, drop-set-lt, get_or-set_other}
-use Rattle.std.proofs.Math.Nat.{div-lt_iff_lt-mul, mod-lt, mul_comm, mul-le-mul_left, pow-suc}
+use Rattle.std.proofs.Math.Nat.{div-one, div-lt_iff_lt-mul, mod-lt, mul_comm, mul-le-mul_left, pow-suc}
 use lib.Dec.{lit≤}
 use mir.Syntax.{w64}
 use mir.Val.{SFits, to_z}
@@ -121,11 +121,35 @@ none_stepped {f} {i} h l = record {
   count = h.near.count;
 }
 
-pub all_stepped : {f : Frame} {i a : ℕ} {cs : List ℤ} {rest : ℕ} → a ≡ 4 → NumberedTo f.low.coordinates f.behind i a cs rest → (s : List ℕ) (n : ℕ) → FrameIs s n f
+-- the last axis: behind it is one vertex, so what is left of the number is the steps
+module _ {ls : List ℤ} {bs : List ℕ} {i a : ℕ} {cs : List ℤ} {rest : ℕ} (e : a ≡ 3) (q : NumberedTo ls bs i a cs rest) (c : length bs ≡ 4) where
+  here : NumberedTo ls bs i 3 cs rest
+  here = subst (λ k. NumberedTo ls bs i k cs rest) e q
+
+  last_one : get_or bs 3 0 ≡ 1
+  last_one =
+      let few = few_here here (lit≤ tt) c in
+      let none : drop 4 bs ≡ [] = drop_all 4 bs (omega arith) in
+      let most : get_or bs 3 0 ≤ 1 = subst (FewSteps (get_or bs 3 0)) none few.1.1 in
+      omega (arith, few.0, most)
+
+  whole : rest / get_or bs 3 0 ≡ rest
+  whole = ap (λ b. rest / b) last_one ∙ div-one rest
+
+  pub last_few : rest < axis_most
+  last_few = subst (λ k. k < axis_most) whole (steps_few here (lit≤ tt) c)
+
+  pub last_fits : SFits w64 (back (get_or cs 3 0ℤ) +ℤ to_z w64 rest)
+  last_fits = subst (λ k. SFits w64 (back (get_or cs 3 0ℤ) +ℤ to_z w64 k)) whole (coordinate_fits here (lit≤ tt) c)
+
+  pub last_axis : NumberedTo ls bs i 4 (set cs 3 (back (back (get_or cs 3 0ℤ) +ℤ to_z w64 rest))) (rest % get_or bs 3 0)
+  last_axis =
+      subst (λ k. NumberedTo ls bs i 4 (set cs 3 (back (back (get_or cs 3 0ℤ) +ℤ to_z w64 k))) (rest % get_or bs 3 0)) whole (axis_more here (lit≤ tt) c)
+
+pub all_stepped : {f : Frame} {i : ℕ} {cs : List ℤ} {rest : ℕ} → NumberedTo f.low.coordinates f.behind i 4 cs rest → (s : List ℕ) (n : ℕ) → FrameIs s n f
     → take n cs ≡ numbered (low_ends s) (high_ends s) i
 unfolding vertex_as
-all_stepped {f} {i} {a} {cs} {rest} e q s n g =
-    let r : NumberedTo f.low.coordinates f.behind i 4 cs rest = subst (λ k. NumberedTo f.low.coordinates f.behind i k cs rest) e q in
+all_stepped {f} {i} {cs} {rest} r s n g =
     let whole : stepped f.low.coordinates f.behind i ≡ cs =
     r.number
     ∙ ap₂ (λ u v. u ++ stepped v (drop 4 f.behind) rest) (take_all 4 cs (omega (arith, r.count))) (drop_all 4 cs (omega (arith, r.count)))

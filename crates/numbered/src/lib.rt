@@ -61,7 +61,7 @@ pub fn frame_of(job: OpenJob<'_>) -> Frame
     box_frame(job.body(0), job.n)
 }
 
-// The vertex with number i.
+// The vertex with number i. Behind the last axis is one vertex, so what is left of the number is the steps on it, without a division.
 pub fn vertex_at(f: Frame, i: usize) -> Vertex
     requires { (FrameFits f) × (i < f.size) }
     ensures vertex_size { VertexSize 1024 result }
@@ -69,9 +69,10 @@ pub fn vertex_at(f: Frame, i: usize) -> Vertex
 {
     let mut coordinates = f.low.coordinates;
     let mut rest = i;
-    for a in 0..4 {
+    for a in 0..3 {
         coordinates[a] += (rest / f.behind[a]) as i64;
         rest %= f.behind[a];
     }
+    coordinates[3] += rest as i64;
     Vertex { coordinates }
 }

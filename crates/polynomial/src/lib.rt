@@ -16,6 +16,8 @@ use bits::read;
 use paper::Vertex;
 
 // The powers 0 to 4 of a coordinate. Those of an axis that does not count may leave 64 bits; they are not read, and no test of n slows a trace.
+// Inlined: as a call it would store its five numbers, to be copied into the table, at each turn of a trace.
+#[inline(always)]
 fn powers_of(x: i64) -> [i64; 5]
     ensures { Size coordinate_limit x → PowersOf x result }
 {
