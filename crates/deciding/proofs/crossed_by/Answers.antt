@@ -1,5 +1,5 @@
 -- `deciding::crossed_by` meets its contract. The invariant: the powers of the vertices before i are put in, and from i on all is 0.
-use Rattle.std.proofs.Common.{ℕ, ◌≡◌, ◌≢◌, ◌+◌, ◌<◌, length, arith, ap, ◌∙◌, get_or-set_other, get_or-set_same, length-set, below_more, zero-add, refl}
+use Rattle.std.proofs.Common.{◌≡◌, ◌≢◌, ◌+◌, ◌<◌, length, arith, ap, ◌∙◌, get_or-set_other, get_or-set_same, length-set, below_more, refl}
 use Rattle.grounds.specs.Ground.{deciding_power}
 use Rattle.determinants.specs.Cells.{facet_columns}
 use Rattle.deciding.proofs.Powers.{zeros, taken}

@@ -1,5 +1,5 @@
 -- `deciding::ground` meets its contract: what is returned is a ground that holds and names the first vertex, and there is only one.
-use Rattle.std.proofs.Common.{◌≡◌, Bool, sym, ap, ◌∙◌, lit≤, take}
+use Rattle.std.proofs.Common.{◌≡◌, sym, ap, ◌∙◌, lit≤, take}
 use Rattle.std.specs.declared.cmp.Ordering.TheVariants.{Equal}
 use Rattle.exact.specs.Sign.{nought, sign, same_sign}
 use Rattle.exact.specs.Det.{determinant}
