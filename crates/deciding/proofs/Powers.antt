@@ -5,7 +5,7 @@ use native.Mathlib.Omega.{arith}
 use mathlib.Core.Path.{◌≡◌, refl, sym, ap, ap₂, subst, ◌∙◌}
 use mathlib.Core.Logic.{◌≢◌}
 use mathlib.Core.List.{List, [], ◌∷◌, map}
-use Rattle.std.proofs.Common.{Option, Some, None, MatchOption, ℤ, Bool, false, IsTrue, ◌↔◌, ◌==◌, length, get_or, take}
+use Rattle.std.proofs.Common.{Option, Some, None, MatchOption, ℤ, Bool, false, IsTrue, ◌↔◌, ◌==◌, length, get_or, take, replicate}
 use Rattle.std.specs.Option.{unwrap_or}
 use Rattle.std.specs.Ordering.{ordering_index}
 use Rattle.std.specs.declared.cmp.Ordering.{Ordering}
@@ -43,6 +43,12 @@ signs_same {b} {t} a side h e =
     same Greater Less = unfold sign_as in (λ h. cc, λ h. cc)
     same Greater Equal = unfold sign_as in (λ h. cc, λ h. cc)
     same Greater Greater = unfold sign_as in (λ _. refl, λ _. refl)
+
+-- an array of zeros is 0 everywhere, also behind its end
+pub zeros : (n k : ℕ) → get_or {A = ℕ} (replicate n 0) k 0 ≡ 0
+zeros zero k = refl
+zeros (suc n) zero = refl
+zeros (suc n) (suc k) = zeros n k
 
 -- the first n members of a list, from number k on those of f
 pub taken : (f : ℕ → ℕ) (k n : ℕ) (xs : List ℕ) → n ≤ length xs → ((i : ℕ) → i < n → get_or xs i 0 ≡ f (k + i)) → take n xs ≡ map f (count_from k n)

@@ -55,7 +55,8 @@ fn first_against(n: usize, cells: &[i64; 15], side: Ordering) -> Option<usize>
 // The ground of a crossed facet: the power that decides each vertex.
 fn crossed_by(n: usize, cells: &[i64; 15]) -> Powers
     requires { Cells n cells.now }
-    ensures { take result.n result.powers ≡ map (deciding_power n (facet_columns n cells.now n)) (count_from 0 n) }
+    ensures count { result.n ≡ n }
+    ensures powers { take n result.powers ≡ map (deciding_power n (facet_columns n cells.now n)) (count_from 0 n) }
 {
     let mut powers = [0; 4];
     for i in 0..n {

@@ -78,8 +78,7 @@ impl From<Result<NamedGround, Refusal>> for GroundAnswer {
             },
             Ok(NamedGround::Crossed(named)) => GroundAnswer {
                 kind: 2,
-                // a `Powers` may say any count; four is all that it holds
-                n: named.n.min(4),
+                n: named.n,
                 power0: power_of(named, 0),
                 power1: power_of(named, 1),
                 power2: power_of(named, 2),

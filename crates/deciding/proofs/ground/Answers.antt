@@ -1,5 +1,5 @@
 -- `deciding::ground` meets its contract: what is returned is a ground that holds and names the first vertex, and there is only one.
-use Rattle.std.proofs.Common.{◌≡◌, Bool, sym, ap, ◌∙◌, lit≤}
+use Rattle.std.proofs.Common.{◌≡◌, sym, ap, ◌∙◌, lit≤, take}
 use Rattle.std.specs.declared.cmp.Ordering.TheVariants.{Equal}
 use Rattle.exact.specs.Sign.{nought, sign, same_sign}
 use Rattle.exact.specs.Det.{determinant}
@@ -37,5 +37,6 @@ returns-in-Some c = against_ground _ _ c.in-Some.ensures c.deciding_power.ensure
 pub returns-in-None : goal.returns-in-None
 unfolding named_as
 returns-in-None c =
-    ap all_with c.crossed_by.ensures
+    ap (λ n. all_with (take n c.crossed_by.result.powers)) c.crossed_by.ensures.count
+    ∙ ap all_with c.crossed_by.ensures.powers
     ∙ with_ground _ _ (not_zero _ (sym (tested (goal.at.returns-in-None c).After-eq) ∙ c.if-eq.false)) c.in-None.ensures
