@@ -1,9 +1,9 @@
 // Little-endian numbers, unsigned and signed. Each reader asks that its last byte lies inside the list.
 // Four functions and not one over the type: `from_le_bytes` is in no trait of the library, and a trait here would have an impl for each.
 
-ghost use Rattle.std.specs.Prelude.{◌≡◌, ◌+◌, ◌<◌, length, nat_abs};
+ghost use Rattle.std.specs.Prelude.{◌≡◌, ◌+◌, ◌≤◌, ◌<◌, length, nat_abs};
 ghost use Rattle.exact.specs.Size.{Is};
-ghost use Rattle.paper.specs.Bytes.{byte, word, double_word, signed_word, signed_double_word};
+ghost use Rattle.paper.specs.Bytes.{byte, word, double_word, signed, signed_word, signed_double_word};
 ghost use Rattle.bits.specs.Read.{Reads};
 
 pub fn byte(s: &[u8], k: usize) -> u64
@@ -27,6 +27,18 @@ pub fn double_word(s: &[u8], k: usize) -> u64
     ensures { Reads 4294967296 (double_word s.now k) result }
 {
     u64::from(u32::from_le_bytes([s[k], s[k + 1], s[k + 2], s[k + 3]]))
+}
+
+// An unsigned number under 2 · half as a signed one, for any width: those from half on stand for the number less 2 · half.
+pub fn signed(half: u64, u: u64) -> i64
+    requires { (half ≤ 2147483648) × (u < half + half) }
+    ensures { Is half (signed half u) result }
+{
+    if u < half {
+        u as i64
+    } else {
+        -((half + half - u) as i64)
+    }
 }
 
 // 16 bits, signed.
