@@ -3,12 +3,12 @@
 
 #![tactic(auto)]
 
-ghost use Rattle.std.specs.Prelude.{◌≡◌, ◌<◌};
+ghost use Rattle.std.specs.Prelude.{◌≡◌, ◌<◌, cond};
 ghost use Rattle.std.proofs.Math.Option.{some};
 ghost use Rattle.exact.specs.Int.{◌⊖◌};
 ghost use Rattle.formula.specs.Polynomial.{zero_polynomial, cellwise, within};
 ghost use Rattle.formula.specs.Polynomial.{constant, variable_polynomial, sum_of, difference_of, product_of};
-ghost use Rattle.formula.specs.Meaning.{power_of};
+ghost use Rattle.formula.specs.Meaning.{power_of, on_result, on_results};
 ghost use Rattle.coefficients.specs.Result.{result_as};
 
 use rows::Polynomial;
@@ -99,4 +99,48 @@ pub fn power(p: &Polynomial, k: u64) -> Option<Polynomial>
         r = product(&r, p)?;
     }
     Some(r)
+}
+
+// ---- the same of inner results: where one broke a limit, there is none
+
+// The opposite.
+#[tactic(auto, unfolding(crate::specs::Result::result_as, formula::specs::Meaning::on_result))]
+pub fn negated(q: Option<Polynomial>) -> Option<Polynomial>
+    ensures { result_as result ≡ on_result (difference_of zero_polynomial) (result_as q) }
+{
+    let q = q?;
+    Some(opposite(&q))
+}
+
+// The sum, or the difference.
+#[tactic(auto, unfolding(crate::specs::Result::result_as, formula::specs::Meaning::on_result, formula::specs::Meaning::on_results))]
+pub fn joined(p: Option<Polynomial>, minus: bool, q: Option<Polynomial>) -> Option<Polynomial>
+    ensures { result_as result ≡ on_results (cond minus difference_of sum_of) (result_as p) (result_as q) }
+{
+    let p = p?;
+    let q = q?;
+    if minus {
+        difference(&p, &q)
+    } else {
+        sum(&p, &q)
+    }
+}
+
+// The product.
+#[tactic(auto, unfolding(crate::specs::Result::result_as, formula::specs::Meaning::on_result, formula::specs::Meaning::on_results))]
+pub fn multiplied(p: Option<Polynomial>, q: Option<Polynomial>) -> Option<Polynomial>
+    ensures { result_as result ≡ on_results product_of (result_as p) (result_as q) }
+{
+    let p = p?;
+    let q = q?;
+    product(&p, &q)
+}
+
+// The power.
+#[tactic(auto, unfolding(crate::specs::Result::result_as, formula::specs::Meaning::on_result))]
+pub fn raised(p: Option<Polynomial>, k: u64) -> Option<Polynomial>
+    ensures { result_as result ≡ on_result (λ x. power_of x k) (result_as p) }
+{
+    let p = p?;
+    power(&p, k)
 }

@@ -11,6 +11,7 @@ ghost use Rattle.formula.specs.Meaning.{on_result, on_results, power_of};
 ghost use Rattle.coefficients.specs.Result.{result_as};
 ghost use Rattle.readers.specs.Ahead.{byte_is, is_digit, AtomAhead, ProductAhead, SumAhead, AtomRead, PowerRead, ProductRead, SumRead, NumberRead, signed_by};
 
+use coefficients::{joined, multiplied, negated, raised};
 use rows::Polynomial;
 
 // What was read: where the text goes on, and the inner result. There is none if a limit was broken; the reading goes on to the end all the same.
@@ -64,50 +65,13 @@ fn axis_of(b: u8) -> usize
     }
 }
 
-// An atom with its exponent.
-#[tactic(auto, unfolding(coefficients::specs::Result::result_as, formula::specs::Meaning::on_result))]
-fn raised(p: Option<Polynomial>, k: u64) -> Option<Polynomial>
-    ensures { result_as result ≡ on_result (λ x. power_of x k) (result_as p) }
-{
-    let p = p?;
-    coefficients::power(&p, k)
-}
-
-// A product with its next power.
-#[tactic(auto, unfolding(coefficients::specs::Result::result_as, formula::specs::Meaning::on_result, formula::specs::Meaning::on_results))]
-fn multiplied(p: Option<Polynomial>, q: Option<Polynomial>) -> Option<Polynomial>
-    ensures { result_as result ≡ on_results product_of (result_as p) (result_as q) }
-{
-    let p = p?;
-    let q = q?;
-    coefficients::product(&p, &q)
-}
-
 // The first product of a sum, with its optional minus. What is read says whether there is one, so that no
 // closure is known at the call.
 #[tactic(auto, unfolding(coefficients::specs::Result::result_as, formula::specs::Meaning::on_result, crate::specs::Ahead::signed_by))]
 fn signed(p: Option<Polynomial>, minus: bool) -> Option<Polynomial>
     ensures { result_as result ≡ signed_by minus (result_as p) }
 {
-    if minus {
-        Some(coefficients::opposite(&p?))
-    } else {
-        p
-    }
-}
-
-// A sum with its next product.
-#[tactic(auto, unfolding(coefficients::specs::Result::result_as, formula::specs::Meaning::on_result, formula::specs::Meaning::on_results))]
-fn joined(p: Option<Polynomial>, minus: bool, q: Option<Polynomial>) -> Option<Polynomial>
-    ensures { result_as result ≡ on_results (cond minus difference_of sum_of) (result_as p) (result_as q) }
-{
-    let p = p?;
-    let q = q?;
-    if minus {
-        coefficients::difference(&p, &q)
-    } else {
-        coefficients::sum(&p, &q)
-    }
+    if minus { negated(p) } else { p }
 }
 
 // A number of 1 to 7 digits. The loop is by hand: the value fits since the text has no more digits, which the closure of a fold would not know.
