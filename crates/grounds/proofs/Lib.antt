@@ -2,4 +2,5 @@
 pub mod Deciding
 pub mod Ground
 pub mod Judged
+pub mod OneForm
 pub mod Cases
