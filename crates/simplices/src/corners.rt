@@ -29,6 +29,7 @@ pub fn next(n: usize, corner: Vertex, masks: u16, out: usize) -> HeldPlace
     ensures { (row : ℕ) → InTable n row → MasksAre n row masks → PlaceIs n corner row out (turn (place_at (vertex_as n corner) (order_at n row) out)) result }
 {
     let mut p = place::place_at(n, corner, masks, out);
+    // Turned where it lies: a struct update copies the place.
     p.side = 1 - p.side;
     p
 }
