@@ -2,9 +2,9 @@
 use mathlib.Core.Path.{◌≡◌, refl, sym, ap, ap₂, subst, ◌∙◌}
 use mathlib.Core.Bool.{Bool, true}
 use mathlib.Core.List.{List, [], ◌∷◌, map}
-use Prim.Native.Nat.{ℕ, suc, zero, ◌+◌, ◌*◌, ◌%◌, ◌^◌, ◌-◌, ◌≤◌, ◌<◌}
+use Prim.Native.Nat.{ℕ, suc, zero, ◌+◌, ◌^◌, ◌-◌, ◌≤◌, ◌<◌}
 use native.Mathlib.Omega.{arith}
-use native.Mathlib.Nat.{mod-lt, le_trans, pow-succ', pow-le-pow_right}
+use native.Mathlib.Nat.{le_trans, pow-succ', pow-le-pow_right}
 use lib.IntN.{ℤ, pos, nat_abs, ◌*ℤ◌}
 use lib.ListN.{length, get_or, get_or-map, set, take, length-map, length-set}
 use lib.Seq.{get_or-set_same, get_or-set_other}
@@ -12,16 +12,13 @@ use lib.Dec.{leb, lit≤, lit<}
 use borrow.Author.Count.{below_more}
 use lib.Pow.{pow-add}
 use mir.Syntax.{w64}
-use mir.Val.{SFits, to_z, of_z}
-use mir.ValLaws.{to_z-of_z, of_z_fits}
-use Rattle.std.specs.Int.{int_wrap}
-use Rattle.std.proofs.lemmas.Int.{wrapping_mul-bits, int_wrap_fits}
+use mir.Val.{SFits}
 use borrow.Author.Tests.{le-leb}
 use Rattle.exact.specs.Int.{◌⊗◌, power, 0ℤ}
 use Rattle.exact.specs.Size.{Size, Is}
 use Rattle.exact.proofs.Ring.{mul-one}
-use Rattle.exact.proofs.SizeLaws.{size_power, size_weaken, size_fits_64}
-use Rattle.exact.proofs.Bits.{holds, holds_call, back, back_is, back_size, fits_mul, holds_mul}
+use Rattle.exact.proofs.SizeLaws.{size_power}
+use Rattle.exact.proofs.Bits.{holds, holds_call, back, back_is, fits_mul, holds_mul}
 use Rattle.curves.specs.Step.{every}
 use Rattle.paper.specs.Limits.{coordinate_limit, degree_limit}
 use Rattle.paper.specs.RunningSum.{monomial_limit, vertex_within}
@@ -29,7 +26,6 @@ use Rattle.paper.proofs.Taken.{take_short}
 use Rattle.exact.proofs.AndTests.{and-true}
 use Rattle.paper.specs.declared.Vertex.{Vertex}
 use Rattle.places.specs.Held.{vertex_as}
-use Rattle.lattice.specs.Box.{Near}
 use Rattle.polynomial.specs.Sums.{PowersOf, base, table_of, Tables, tabled}
 use Rattle.polynomial.proofs.Limits.{coordinate_word, degree_limit_lem, monomial_limit_lem}
 
@@ -112,40 +108,6 @@ module _ {x : ℤ} (s : Size coordinate_limit x) where
       at (suc (suc (suc (suc zero)))) l = fourth_is.1
       at (suc (suc (suc (suc (suc e))))) l = absurd (omega (arith, degree_limit_lem))
 
--- ---- the entries as the code makes them, by products that wrap
-
-bits_lt : {z : ℤ} → Size coordinate_limit z → of_z w64 z < 18446744073709551616
-bits_lt {z} s = (of_z_fits w64 z (size_fits_64 (size_weaken s coordinate_word))).fits
-
--- a product that fits is not changed
-wrapped : (m n : ℕ) {y z : ℤ} → m < 18446744073709551616 → n < 18446744073709551616 → to_z w64 m ≡ y → to_z w64 n ≡ z → SFits w64 (y *ℤ z)
-    → to_z w64 (m * n % 18446744073709551616) ≡ back (y *ℤ z)
-wrapped m n {y} {z} p q e g f =
-    wrapping_mul-bits w64 m n p q ∙ ap₂ (λ u v. int_wrap w64 (u *ℤ v)) e g ∙ int_wrap_fits w64 (y *ℤ z) f ∙ sym (to_z-of_z w64 (y *ℤ z) f)
-
-abbrev times : ℕ → ℕ → ℕ
-times m n = m * n % 18446744073709551616
-
-times_lt : (m n : ℕ) → times m n < 18446744073709551616
-times_lt m n = mod-lt (m * n) (lit< tt)
-
-pub wrapped_powers : {x : ℤ} → Size coordinate_limit x
-    → PowersOf x (pos 1 ∷ back x ∷ to_z w64 (times (of_z w64 x) (of_z w64 x)) ∷ to_z w64 (times (of_z w64 x) (times (of_z w64 x) (of_z w64 x)))
-    ∷ to_z w64 (times (of_z w64 x) (times (of_z w64 x) (times (of_z w64 x) (of_z w64 x)))) ∷ [])
-wrapped_powers {x} s = rw (two, three, four) (powers_of s)
-  where
-    bits : ℕ
-    bits = of_z w64 x
-
-    two : to_z w64 (times bits bits) ≡ back (square s)
-    two = wrapped bits bits (bits_lt s) (bits_lt s) refl refl (square_is s).0
-
-    three : to_z w64 (times bits (times bits bits)) ≡ back (cube s)
-    three = wrapped bits (times bits bits) (bits_lt s) (times_lt bits bits) refl two (cube_is s).0
-
-    four : to_z w64 (times bits (times bits (times bits bits))) ≡ back (fourth s)
-    four = wrapped bits (times bits (times bits bits)) (bits_lt s) (times_lt bits (times bits bits)) refl three (fourth_is s).0
-
 -- the entry 1 of the powers of x is x
 pub powers_base : {x : ℤ} {p : List ℤ} → PowersOf x p → base p ≡ x
 unfolding base power degree_limit
@@ -159,25 +121,30 @@ pub power_entry : {x : ℤ} {p : List ℤ} {e r : ℕ} → PowersOf x p → r �
 power_entry {e = e} h i l = rw i (holds_call (h.power_at e l) (power_word e l))
 
 -- of a coordinate that is read from its bits
-pub read_back : {x : ℤ} {p : List ℤ} → Size coordinate_limit x → (Size coordinate_limit (back x) → PowersOf (back x) p) → PowersOf x p
-read_back {x} {p} s h = subst (λ y. PowersOf y p) (back_is s coordinate_word) (h (back_size s coordinate_word))
+pub read_back : {x : ℤ} {p : List ℤ} → Size coordinate_limit x → PowersOf (back x) p → PowersOf x p
+read_back {x} {p} s h = subst (λ y. PowersOf y p) (back_is s coordinate_word) h
 
 -- ---- the tables of a vertex
 
--- the tables of the first k axes are those of the coordinates vs
-pub record Tabling (vs : List ℤ) (k : ℕ) (ts : List (List ℤ)) : Type 0 where
+-- the tables of the axes under k that count are those of the coordinates vs
+pub record Tabling (vs : List ℤ) (n k : ℕ) (ts : List (List ℤ)) : Type 0 where
   pub count : length ts ≡ 4
-  pub each : (a : ℕ) → a < k → Size coordinate_limit (get_or vs a 0ℤ) → PowersOf (get_or vs a 0ℤ) (table_of ts a)
+  pub each : (a : ℕ) → a < k → a < n → PowersOf (get_or vs a 0ℤ) (table_of ts a)
 
-pub tabling_next : {vs : List ℤ} (k : ℕ) {ts : List (List ℤ)} {p : List ℤ} → k < 4 → (Size coordinate_limit (get_or vs k 0ℤ) → PowersOf (get_or vs k 0ℤ) p) → Tabling vs k ts
-    → Tabling vs (k + 1) (set ts k p)
-tabling_next {vs} k {ts} {p} l h g = record {
+-- an axis that counts
+pub tabling_next : {vs : List ℤ} {n : ℕ} (k : ℕ) {ts : List (List ℤ)} {p : List ℤ} → k < 4 → PowersOf (get_or vs k 0ℤ) p → Tabling vs n k ts
+    → Tabling vs n (k + 1) (set ts k p)
+tabling_next {vs} {n} k {ts} {p} l h g = record {
   count = length-set ts k p ∙ g.count;
   each =
       below_more _ k
       (λ a u m. subst (PowersOf (get_or vs a 0ℤ)) (sym (get_or-set_other ts k a p [] (λ e. omega arith))) (g.each a u m))
-      (λ m. subst (PowersOf (get_or vs k 0ℤ)) (sym (get_or-set_same ts k p [] (omega (arith, g.count)))) (h m));
+      (λ m. subst (PowersOf (get_or vs k 0ℤ)) (sym (get_or-set_same ts k p [] (omega (arith, g.count)))) h);
 }
+
+-- one that does not
+pub tabling_stays : {vs : List ℤ} {n : ℕ} (k : ℕ) {ts : List (List ℤ)} → n ≤ k → Tabling vs n k ts → Tabling vs n (k + 1) ts
+tabling_stays k l g = record { count = g.count; each = below_more _ k g.each (λ m. absurd (omega arith)) }
 
 -- ---- all tables
 
@@ -197,17 +164,17 @@ pub base_at : (ts : List (List ℤ)) (a : ℕ) → get_or (map base ts) a 0ℤ �
 unfolding base
 base_at ts a = get_or-map base ts a []
 
-pub tables_are : {v : Vertex} {k : ℕ} {ts : List (List ℤ)} → 4 ≤ k → Tabling v.coordinates k ts → length v.coordinates ≡ 4 → (n : ℕ) → Near n v
+pub tables_are : {v : Vertex} {n k : ℕ} {ts : List (List ℤ)} → 4 ≤ k → Tabling v.coordinates n k ts → length v.coordinates ≡ 4
     → Tables n ts × (tabled n ts ≡ vertex_as n v)
 unfolding tabled vertex_as
-tables_are {v} {k} {ts} all h e n near = (
+tables_are {v} {n} {k} {ts} all h e = (
   record { count = h.count; each = λ a l m. powers_own (of_axis a l m) },
   take_same n (map base ts) v.coordinates (length-map ts base ∙ h.count ∙ sym e)
       (λ a l m. base_at ts a ∙ powers_base (of_axis a (omega (arith, length-map ts base, h.count)) m)),
 )
   where
     of_axis : (a : ℕ) → a < 4 → a < n → PowersOf (get_or v.coordinates a 0ℤ) (table_of ts a)
-    of_axis a l m = h.each a (omega arith) (near.each a m)
+    of_axis a l m = h.each a (omega arith) m
 
 -- ---- the vertex of the tables is one that a box may have
 

@@ -2,7 +2,7 @@
 
 #![tactic(auto)]
 
-ghost use Rattle.std.specs.Prelude.{◌≡◌, ℕ, ◌^◌, ◌≤◌, ◌<◌};
+ghost use Rattle.std.specs.Prelude.{◌≡◌, ◌^◌, ◌≤◌, ◌<◌};
 ghost use Rattle.exact.specs.Size.{Size, Is};
 ghost use Rattle.paper.specs.Limits.{coordinate_limit};
 ghost use Rattle.paper.specs.Job.{term_count, exponent_of};
@@ -15,25 +15,30 @@ ghost use Rattle.polynomial.specs.Sums.{sum_limit, Polynomial, PowersOf, Tables,
 use bits::read;
 use paper::Vertex;
 
-// The powers 0 to 4 of a coordinate. Those of an axis that does not count may leave 64 bits; they are not read, and no test of n slows a trace.
+// The powers 0 to 4 of a coordinate.
 // Inlined: as a call it would store its five numbers, to be copied into the table, at each turn of a trace.
 #[inline(always)]
 fn powers_of(x: i64) -> [i64; 5]
-    ensures { Size coordinate_limit x → PowersOf x result }
+    requires { Size coordinate_limit x }
+    ensures { PowersOf x result }
 {
     let one: i64 = 1;
-    let square = x.wrapping_mul(x);
-    let cube = x.wrapping_mul(square);
-    [one, x, square, cube, x.wrapping_mul(cube)]
+    let square = x * x;
+    let cube = x * square;
+    [one, x, square, cube, x * cube]
 }
 
-// The powers of a vertex's coordinates, a table for each axis.
-pub fn powers(v: Vertex) -> [[i64; 5]; 4]
-    ensures { (n : ℕ) → Near n v → (Tables n result) × (tabled n result ≡ vertex_as n v) }
+// The powers of a vertex's coordinates, a table for each axis; noughts for an axis that does not count, whose coordinate may be any number.
+// With a bound that is a constant the loop is unrolled.
+pub fn powers(n: usize, v: Vertex) -> [[i64; 5]; 4]
+    requires { Near n v }
+    ensures { (Tables n result) × (tabled n result ≡ vertex_as n v) }
 {
     let mut tables = [[0i64; 5]; 4];
     for axis in 0..4 {
-        tables[axis] = powers_of(v.coordinates[axis]);
+        if axis < n {
+            tables[axis] = powers_of(v.coordinates[axis]);
+        }
     }
     tables
 }
@@ -104,5 +109,5 @@ pub fn running_sum(body: &[u8], n: usize, v: Vertex, terms: usize) -> i64
     requires terms_bound { terms ≤ term_count body.now }
     ensures { Is (partial_sum_limit n) (running_sum body.now (vertex_as n v) terms) result }
 {
-    sum_of_last(body, n, terms, &powers(v))
+    sum_of_last(body, n, terms, &powers(n, v))
 }
