@@ -1,6 +1,7 @@
 -- `places::read_vertex` meets its contract.
 use Rattle.std.proofs.Common.{ℕ, ◌*◌, ◌≡◌, map, take, length-set, refl, sym, ap, ◌∙◌, arith}
 use lib.Dec.{lit≤}
+use Rattle.std.proofs.lemmas.List.{get_or-set_other}
 use Rattle.exact.specs.Int.{0ℤ}
 use Rattle.exact.specs.Size.{Size}
 use Rattle.exact.specs.Crossed.{count_from}
@@ -13,7 +14,7 @@ use Rattle.places.proofs.read_vertex.Goals as goal
 
 pub loop-a-init : goal.loop-a-init
 unfolding count_from
-loop-a-init c = record { read = refl; size = each_none (Size 32768) 4 0ℤ (record { size = omega arith }); count = refl }
+loop-a-init c = record { read = refl; size = each_none (Size 32768) 4 0ℤ (record { size = omega arith }); count = refl; rest = λ a l. each_none (λ z. z ≡ 0ℤ) 4 0ℤ refl a }
 
 pub loop-a-preserved : goal.loop-a-preserved
 loop-a-preserved c =
@@ -24,6 +25,7 @@ loop-a-preserved c =
           c.loop-a.invariant.read;
       size = each_set (Size 32768) _ _ _ 0ℤ c.loop-a.invariant.size (is_size read);
       count = simp length-set c.loop-a.invariant.count;
+      rest = λ a l. get_or-set_other _ _ a _ 0ℤ (λ e. omega arith) ∙ c.loop-a.invariant.rest a (omega arith);
     }
 
 pub returns : goal.returns
@@ -36,4 +38,5 @@ returns c =
           ∙ c.loop-a.invariant.read
           ∙ ap (λ a. map (λ (a : ℕ). signed_word c.args.p.now (2 * a)) (count_from 0 a)) all;
       size = record { count = c.loop-a.invariant.count; each = c.loop-a.invariant.size };
+      rest = λ a l. c.loop-a.invariant.rest a (omega arith);
     }
