@@ -4,9 +4,9 @@ use native.Mathlib.Omega.{arith}
 use mathlib.Core.Path.{◌≡◌, refl, sym, ap, subst, ◌∙◌}
 use mathlib.Core.List.{List, [], ◌∷◌, ◌++◌}
 use lib.IntN.{pos}
-use lib.ListN.{length, length-append}
+use lib.ListN.{length, length-append, take, get_or, set}
 use borrow.Rule.Slice.PartMut.{put_mid}
-use lib.Seq.{sets, length-sets}
+use lib.Seq.{sets, length-sets, take-suc, length-take-le}
 use Rattle.paper.specs.Bytes.{word_of, word_bytes}
 use Rattle.bits.proofs.Sets.{sets_append, filled}
 use Rattle.assembly.specs.Assembled.{entries_of, bodies_of}
@@ -27,6 +27,15 @@ laid_behind {b} {c} {d} {us} {vs} {at} {m} {r} p q = record {
 
 pub laid_long : {b c us : List ℕ} {at m : ℕ} → Laid b at us c m → length c ≡ length b
 laid_long {b} {c} {us} {at} p = ap length p.buffer ∙ length-sets b at us
+
+-- one byte more of a list
+pub sets_next : (l : List ℕ) (at : ℕ) (s : List ℕ) (i : ℕ) → i < length s
+    → set (sets l at (take i s)) (at + i) (get_or s i 0) ≡ sets l at (take (i + 1) s)
+sets_next l at s i h =
+    let long : length (take i s) ≡ i = length-take-le i s (omega arith) in
+    let one : i + 1 ≡ suc i = omega arith in
+    let more : take (i + 1) s ≡ take i s ++ (get_or s i 0 ∷ []) = ap (λ k. take k s) one ∙ take-suc s i 0 h in
+    sym (ap (sets l at) more ∙ sets_append l at (take i s) (get_or s i 0 ∷ []) ∙ ap (λ k. set (sets l at (take i s)) (at + k) (get_or s i 0)) long)
 
 -- a part of a buffer filled with bytes
 pub part_laid : {us part : List ℕ} {m next : ℕ} (b : List ℕ) (at : ℕ) → part ≡ us → m ≡ length us → next ≡ at + length us → at + length us ≤ length b

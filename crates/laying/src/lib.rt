@@ -45,14 +45,16 @@ pub fn lay_contents(buffer: &mut [u8], at: usize, n: usize, bias: u8, bodies: [&
     lay_entries(buffer, at + 4, n, bodies)
 }
 
-// A body. As `decimals::put_word`, but it says what the whole buffer then is.
+// A body. As `decimals::put_word`, but it says what the whole buffer then is. Byte by byte: the library's copy of a slice is a call of
+// `memmove`, which the archive for C would need from outside.
 fn lay_body(buffer: &mut [u8], at: usize, body: &[u8]) -> usize
     requires { at + length body.now ≤ length buffer.old }
     ensures { Laid buffer.old at body.now buffer.new result }
 {
-    let end = at + body.len();
-    buffer[at..end].copy_from_slice(body);
-    end
+    for (k, byte) in body.iter().enumerate() {
+        buffer[at + k] = *byte;
+    }
+    at + body.len()
 }
 
 // The bodies of a job, one behind the other.

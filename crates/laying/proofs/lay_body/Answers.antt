@@ -1,7 +1,6 @@
--- `laying::lay_body` meets its contract.
-use Rattle.std.proofs.Common.{refl, arith}
-use Rattle.laying.proofs.Behind.{part_laid}
+-- `laying::lay_body` meets its contract: after k turns the first k bytes of the body are laid.
+use Rattle.laying.proofs.Behind.{sets_next}
 use Rattle.laying.proofs.lay_body.Goals as goal
 
-pub returns : goal.returns
-returns c = part_laid c.args.buffer.now c.args.at c.copy_from_slice.ensures.after (omega arith) refl c.requires
+pub loop-k-preserved : goal.loop-k-preserved
+loop-k-preserved c = rw c.loop-k.invariant (sets_next _ _ _ _ c.loop-k-test.true)
