@@ -46,7 +46,8 @@ pub fn put_values(job: OpenJob<'_>, v: Vertex, i: usize, cells: &mut [i64; 15]) 
     requires i_bound { (i < 5) × (Cells job.n cells.old) }
     ensures { ValuesPut job.entry.bytes.now job.entry.n (vertex_as job.entry.n v) i cells.old result cells.new }
 {
-    let tables = polynomial::powers(job.n, v);
+    let mut tables = [[0i64; 5]; 4];
+    polynomial::powers(job.n, v, &mut tables);
     for j in 0..job.n - 1 {
         if !put_value(job, j + 1, 3 * i + j, &tables, cells) {
             return false;

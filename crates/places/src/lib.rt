@@ -80,7 +80,8 @@ pub fn read_place(n: usize, p: &[u8]) -> HeldPlace
 
 // ---- two places on the same facet
 
-// Two places have the same facet.
+// Two places have the same facet. Inlined: as a call it would copy both places, at each turn of a trace.
+#[inline(always)]
 pub fn same_facet(n: usize, p: HeldPlace, q: HeldPlace) -> bool
     requires { Axes n }
     ensures { result ≡ on_same_facet (place_as n p) (place_as n q) }

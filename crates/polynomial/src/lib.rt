@@ -28,19 +28,17 @@ fn powers_of(x: i64) -> [i64; 5]
     [one, x, square, cube, x * cube]
 }
 
-// The powers of a vertex's coordinates, a table for each axis; noughts for an axis that does not count, whose coordinate may be any number.
-// With a bound that is a constant the loop is unrolled.
-pub fn powers(n: usize, v: Vertex) -> [[i64; 5]; 4]
+// The powers of a vertex's coordinates, put into a table for each axis that counts; the coordinate of another may be any number. With a bound that is a
+// constant the loop is unrolled, and the tables are lent: those of a result would be made in numbers first and then stored, at each turn of a trace.
+pub fn powers(n: usize, v: Vertex, tables: &mut [[i64; 5]; 4])
     requires { Near n v }
-    ensures { (Tables n result) × (tabled n result ≡ vertex_as n v) }
+    ensures { (Tables n tables.new) × (tabled n tables.new ≡ vertex_as n v) }
 {
-    let mut tables = [[0i64; 5]; 4];
     for axis in 0..4 {
         if axis < n {
             tables[axis] = powers_of(v.coordinates[axis]);
         }
     }
-    tables
 }
 
 // The power of one coordinate in term i; 1 from axis n on.
@@ -109,5 +107,7 @@ pub fn running_sum(body: &[u8], n: usize, v: Vertex, terms: usize) -> i64
     requires terms_bound { terms ≤ term_count body.now }
     ensures { Is (partial_sum_limit n) (running_sum body.now (vertex_as n v) terms) result }
 {
-    sum_of_last(body, n, terms, &powers(n, v))
+    let mut tables = [[0i64; 5]; 4];
+    powers(n, v, &mut tables);
+    sum_of_last(body, n, terms, &tables)
 }
