@@ -1,17 +1,15 @@
 -- The search of the table is right and never in vain: what matches is the simplex on the place's side (`found`), and for a well-formed
 -- place some row and vertex match (`some_match`), since every order is a row.
 use Prim.Native.Nat.{ℕ, suc, ◌-◌, ◌≤◌, ◌<◌}
-use mathlib.Core.Path.{◌≡◌, sym, ap, ap₂, ◌∙◌}
-use mathlib.Core.Bool.{Bool, true, false, ◌&&◌, false≢true}
+use mathlib.Core.Path.{◌≡◌, refl, sym, ap, ap₂, subst, ◌∙◌}
+use mathlib.Core.Bool.{Bool, true, false, ◌&&◌, ◌||◌, false≢true}
 use mathlib.Core.List.Memᴰ
 use mathlib.Core.List.{List, [], ◌∷◌}
 use mathlib.Core.Logic.{⊎_elim}
 use native.Mathlib.Omega.{arith}
 use lib.ListN.{length, get_or, take}
-use lib.Dec.{eqb}
-use borrow.Author.Tests.{eqb-true, eq-eqb, ne_eqb}
-use Rattle.std.proofs.lemmas.Bool.{cases_Bool}
-use Rattle.std.proofs.lemmas.List.{get_or-take}
+use lib.Dec.{eqb, leb}
+use borrow.Author.Tests.{eqb-true, eq-eqb}
 use Rattle.exact.proofs.AndTests.{and_left, and_right, and-true}
 use Rattle.curves.specs.Grid.{Place, Incidence, place_at, place_of, place_ok, incidence, same_masks, orders}
 use Rattle.curves.specs.Curve.{◌∈◌}
@@ -20,10 +18,11 @@ use Rattle.curves.proofs.IncidencePlace.{incidence_place}
 use Rattle.curves.proofs.IncidenceOf.{Valid, incidence_ok, place_incidence}
 use Rattle.curves.proofs.Orders.{orders_complete}
 use Rattle.paper.specs.Limits.{dimension_ok}
+use Rattle.paper.specs.Job.{all_from}
+use Rattle.bits.specs.Axes.{Axes}
+use Rattle.bits.proofs.EachDimension.{each_axes}
 use Rattle.paper.proofs.Tests.{dimension_range}
 use Rattle.paper.specs.declared.HeldPlace.{HeldPlace}
-use lib.Pointwise.{pointwise}
-use Rattle.places.proofs.SameNumbers.{masks_compared}
 use Rattle.places.specs.Held.{masks_as, facet_as, place_as}
 use Rattle.table.specs.Table.{order_at, InTable}
 use Rattle.sides.specs.Facets.{masks_at, side_at, facet_masks}
@@ -35,28 +34,48 @@ use Rattle.simplices.specs.Search.{matches, Found}
 
 -- ---- the masks, and then the side
 
--- the masks that count, as the table has them, compared by the library
+-- three masks compared one after the other, of which the first n - 1 count
+three_compared : (a b c d e f n : ℕ) → Axes n
+    → all_from (λ k. leb (n - 1) k || eqb (get_or (a ∷ b ∷ c ∷ []) k 0) (get_or (d ∷ e ∷ f ∷ []) k 0)) 0 3
+    ≡ same_masks (take (n - 1) (a ∷ b ∷ c ∷ [])) (take (n - 1) (d ∷ e ∷ f ∷ []))
+unfolding all_from same_masks
+three_compared a b c d e f n h =
+    each_axes
+    (λ n.
+    all_from (λ k. leb (n - 1) k || eqb (get_or (a ∷ b ∷ c ∷ []) k 0) (get_or (d ∷ e ∷ f ∷ []) k 0)) 0 3
+    ≡ same_masks (take (n - 1) (a ∷ b ∷ c ∷ [])) (take (n - 1) (d ∷ e ∷ f ∷ [])))
+    refl refl refl n h
+
+-- a list of three by its members
+three : (xs : List ℕ) → length xs ≡ 3 → get_or xs 0 0 ∷ get_or xs 1 0 ∷ get_or xs 2 0 ∷ [] ≡ xs
+three [] e = absurd (omega arith)
+three (a ∷ []) e = absurd (omega arith)
+three (a ∷ b ∷ []) e = absurd (omega arith)
+three (a ∷ b ∷ c ∷ []) e = refl
+three (a ∷ b ∷ c ∷ d ∷ l) e = absurd (omega arith)
+
+three_tested : (n : ℕ) → Axes n → (xs ys : List ℕ) → length xs ≡ 3 → length ys ≡ 3
+    → all_from (λ k. leb (n - 1) k || eqb (get_or xs k 0) (get_or ys k 0)) 0 3 ≡ same_masks (take (n - 1) xs) (take (n - 1) ys)
+three_tested n h xs ys c d =
+    subst (λ zs. all_from (λ k. leb (n - 1) k || eqb (get_or zs k 0) (get_or ys k 0)) 0 3 ≡ same_masks (take (n - 1) zs) (take (n - 1) ys)) (three xs c)
+    (subst
+    (λ zs.
+    all_from (λ k. leb (n - 1) k || eqb (get_or (get_or xs 0 0 ∷ get_or xs 1 0 ∷ get_or xs 2 0 ∷ []) k 0) (get_or zs k 0)) 0 3
+    ≡ same_masks (take (n - 1) (get_or xs 0 0 ∷ get_or xs 1 0 ∷ get_or xs 2 0 ∷ [])) (take (n - 1) zs))
+    (three ys d) (three_compared _ _ _ _ _ _ n h))
+
+-- the masks that count, as the table has them
 module _ {n row out : ℕ} (p : HeldPlace) (h : InTable n row) (l : out ≤ n) {masks : List ℕ} (e : masks ≡ facet_masks n row out) where
   read : take (n - 1) masks ≡ masks_at n row out
   read = ap (take (n - 1)) e ∙ sym (masks_are n row out h l)
 
-  pub masks_decide : pointwise eqb (take (n - 1) masks) (masks_as n p) ≡ same_masks (masks_at n row out) (masks_as n p)
-  masks_decide = masks_compared (take (n - 1) masks) (masks_as n p) ∙ ap (λ ms. same_masks ms (masks_as n p)) read
+  -- the code tests three masks, and those from n - 1 on pass
+  abbrev test : ℕ → Bool
+  test k = leb (n - 1) k || eqb (get_or masks k 0) (get_or p.masks k 0)
 
-  same_first : same_masks (masks_at n row out) (masks_as n p) ≡ true → get_or masks 0 0 ≡ get_or p.masks 0 0
+  pub masks_decide : length masks ≡ 3 → length p.masks ≡ 3 → all_from test 0 3 ≡ same_masks (masks_at n row out) (masks_as n p)
   unfolding masks_as
-  same_first t =
-      let counts : 0 < n - 1 = omega (arith, h.axes.low) in
-      sym (get_or-take (n - 1) masks 0 0 counts)
-      ∙ ap (λ ms. get_or ms 0 0) (read ∙ same_masks_sound (masks_at n row out) (masks_as n p) t)
-      ∙ get_or-take (n - 1) p.masks 0 0 counts
-
-  -- where the first ones differ, that is the answer
-  pub first_decides : (get_or masks 0 0 ≡ get_or p.masks 0 0 → ⊥)
-      → eqb (get_or masks 0 0) (get_or p.masks 0 0) ≡ same_masks (masks_at n row out) (masks_as n p)
-  first_decides other =
-      ne_eqb (get_or masks 0 0) (get_or p.masks 0 0) other
-      ∙ ⊎_elim (λ t. absurd (other (same_first t))) sym (cases_Bool (same_masks (masks_at n row out) (masks_as n p)))
+  masks_decide c d = three_tested n h.axes masks p.masks c d ∙ ap (λ ms. same_masks ms (masks_as n p)) read
 
 module _
     (n row out : ℕ) (p : HeldPlace) {same : Bool} (is_same : same ≡ same_masks (masks_at n row out) (masks_as n p)) where

@@ -26,8 +26,8 @@ pub fn same_masks(n: usize, row: usize, out: usize, p: HeldPlace) -> bool
 {
     let count = n - 1;
     let masks = facet::facet_masks(n, row, out);
-    // The first mask decides nearly every try.
-    masks[0] == p.masks[0] && masks[..count] == p.masks[..count]
+    // One mask after the other: the first decides nearly every try, and with a bound that is a constant the others are not even computed then.
+    (0..3).all(|k| count <= k || masks[k] == p.masks[k])
 }
 
 // The facet without vertex `out` has the place's masks and side.
