@@ -2,21 +2,20 @@
 use mathlib.Core.Path.{◌≡◌, refl, sym, ◌∙◌}
 use mathlib.Core.Bool.{Bool, true, false, ◌&&◌, false≢true}
 use mathlib.Core.List.{List}
-use Prim.Native.Nat.{ℕ, ◌-◌, ◌≤◌, ◌<◌}
+use Prim.Native.Nat.{ℕ, ◌-◌, ◌<◌}
 use native.Mathlib.Omega.{arith}
 use lib.IntN.{ℤ, pos, negsuc, nat_abs}
 use lib.Signed.{le_z, lt_z}
-use borrow.Author.Tests.{le-leb, lt-leb, ltb-true}
+use borrow.Author.Tests.{le-leb, ltb-true}
 use Rattle.exact.specs.Int.{neg}
 use Rattle.exact.proofs.AndTests.{and-false}
 use Rattle.paper.specs.Job.{dimension, body, low_end, high_end, all_from, box_ok}
-use Rattle.paper.specs.Operations.{polynomial_terms}
 use Rattle.paper.proofs.Tests.{all_same}
 use Rattle.paper.proofs.Terms.{between_size, box_axis}
 use Rattle.boxes.specs.Between.{axis_between, box_between}
 use Rattle.job.specs.OpenJob.{JobOf}
 use Rattle.job.proofs.Opened.{job_opens}
-use Rattle.small.specs.Small.{small_coordinate_limit, small_term_limit, end_small, axis_small, box_small, terms_small, job_small}
+use Rattle.small.specs.Small.{small_coordinate_limit, end_small, axis_small, box_small, terms_small, job_small}
 use Rattle.small.proofs.TooLarge.{end_test}
 
 -- ---- the ends of an axis

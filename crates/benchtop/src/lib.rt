@@ -26,6 +26,7 @@ fn opened(job: &[u8]) -> Result<OpenJob<'_>, Refusal>
 }
 
 // The small cutter's Open.
+#[tactic(auto, using(crate::proofs::SmallAnswers::open_answers), unfolding(paper::specs::Answers::opened_as, paper::specs::Refusals::answer_by))]
 pub fn open(job: &[u8]) -> Result<Opened, Refusal>
     ensures { opened_as result ≡ small_opened job.now }
 {
@@ -33,6 +34,7 @@ pub fn open(job: &[u8]) -> Result<Opened, Refusal>
 }
 
 // The small cutter's Trace. A refusal touches nothing, and bytes past the last place written keep their values.
+#[tactic(auto, using(crate::proofs::SmallAnswers::trace_answers), unfolding(paper::specs::Answers::traced_as, paper::specs::Refusals::answer_by, paper::specs::Operations::verdict_and_count, paper::specs::Operations::buffer_after))]
 pub fn trace(job: &[u8], buffer: &mut [u8]) -> Result<Traced, Refusal>
     ensures answer { traced_as result ≡ verdict_and_count (small_traced job.now (space_of job.now buffer.old)) }
     ensures written { buffer.new ≡ buffer_after (small_traced job.now (space_of job.now buffer.old)) buffer.old }

@@ -34,6 +34,7 @@ fn put_corner(
     job: OpenJob<'_>,
     v: Vertex,
     m: usize,
+    tables: &mut [[i64; 5]; 4],
     one: &mut [i64; 15],
     values: &mut [i64; 48],
 ) -> bool
@@ -42,7 +43,7 @@ fn put_corner(
     ensures { CornerPut job.entry.bytes.now job.entry.n (vertex_as job.entry.n v) m values.old result values.new one.new }
 {
     let u = lattice::shifted(v, m as u64);
-    if field::vertex_inside(job, u) && field::put_values(job, u, 0, one) {
+    if field::vertex_inside(job, u) && field::put_values_with(job, u, 0, tables, one) {
         copy_values(job.n, one, 0, values, m);
         true
     } else {
@@ -50,7 +51,7 @@ fn put_corner(
     }
 }
 
-// All corners of the cube above v.
+// All corners of the cube above v. The room for the tables of powers is cleared once, and not at each corner.
 pub fn fill(
     job: OpenJob<'_>,
     v: Vertex,
@@ -62,8 +63,9 @@ pub fn fill(
     requires within { (Within job.n values.old) × ((length values.old ≡ 48) × (length known.old ≡ 16)) }
     ensures { Cube job.entry.bytes.now job.entry.n (vertex_as job.entry.n v) values.new known.new one.new }
 {
+    let mut tables = [[0i64; 5]; 4];
     for m in 0..1usize << job.n {
-        known[m] = put_corner(job, v, m, one, values);
+        known[m] = put_corner(job, v, m, &mut tables, one, values);
     }
 }
 

@@ -87,6 +87,7 @@ fn ground(n: usize, cells: &[i64; 15]) -> NamedGround
 }
 
 // Judge with its ground.
+#[tactic(auto, using(crate::proofs::Answers::ground_steps), unfolding(grounds::specs::Judged::place_columns))]
 pub fn judge_ground(job: &[u8], place: &[u8]) -> Result<NamedGround, Refusal>
     ensures named { judged_by_as result ≡ judged_by job.now place.now }
     ensures agrees { plainly (judged_by_as result) ≡ judged job.now place.now }

@@ -86,6 +86,7 @@ impl<'a> OpenJob<'a> {
 }
 
 // Open: the refusal, or n and each polynomial's count of terms.
+#[tactic(auto, using(paper::proofs::Refused::refusal_some, paper::proofs::Refusals::unless_refused, paper::proofs::Refusals::unless_answered), unfolding(paper::specs::Answers::opened_as, paper::specs::Refusals::answer_by, paper::specs::Operations::opened))]
 pub fn open(job: &[u8]) -> Result<Opened, Refusal>
     ensures { opened_as result ≡ opened job.now }
 {

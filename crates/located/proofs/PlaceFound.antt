@@ -1,5 +1,5 @@
 -- What Judge's refusal of a place is: 13, or what is refused of its facet; and what is found if there is none.
-use mathlib.Core.Path.{◌≡◌, sym, ap, ◌∙◌}
+use mathlib.Core.Path.{◌≡◌, refl, sym, ap, ◌∙◌}
 use mathlib.Core.Bool.{true}
 use mathlib.Core.List.{List}
 use Prim.Native.Nat.{ℕ, ◌*◌}
@@ -7,7 +7,7 @@ use lib.IntN.{ℤ}
 use lib.ListN.{length}
 use Rattle.curves.specs.Grid.{Place, facet_vertices, place_ok}
 use Rattle.curves.specs.Step.{columns}
-use Rattle.paper.specs.Job.{decode_place}
+use Rattle.paper.specs.Job.{dimension, decode_place, open_refusal}
 use Rattle.paper.specs.Values.{field_of}
 use Rattle.paper.specs.Operations.{facet_refusal, facet_of, place_bad, judge_refusal}
 use Rattle.paper.proofs.Refusals.{refuse_here, refuse_later}
@@ -45,3 +45,24 @@ module _ {n : ℕ} {s : List ℕ} (job : JobOf n s) (p : List ℕ) where
         columns = h.1 ∙ ap (λ f. columns (field_of s) (facet_vertices f)) (held_facet job at);
       },
     )
+
+-- ---- as equations, which a check finds by itself
+
+-- behind Open and the tests of the form, what is refused of the facet
+pub form_passed : (s p : List ℕ) → open_refusal s ≡ 0 → length p ≡ 3 * dimension s → place_ok (dimension s) (decode_place (dimension s) p) ≡ true
+    → judge_refusal s p ≡ facet_refusal s (facet_of s p)
+form_passed s p o l form =
+    let job : JobOf (dimension s) s = record { opens = o; dimension = refl } in
+    judge_refusal_lem job p ∙ refuse_later 13 (facet_refusal s (facet_of s p)) (right_form (dimension s) p l form)
+
+-- the facet of the place that the bytes name
+pub facet_of_place : (s p : List ℕ) → facet_of s p ≡ (decode_place (dimension s) p).facet
+unfolding facet_of
+facet_of_place s p = refl
+
+-- the facet of the place that is held
+pub facet_as_place : (n : ℕ) (q : HeldPlace) → facet_as n q ≡ (place_as n q).facet
+unfolding place_as
+facet_as_place n q = refl
+
+pub ruleset place_steps = (form_passed, facet_of_place, facet_as_place)

@@ -11,6 +11,7 @@ use paper::{HeldPlace, Refusal};
 
 // What Judge refuses, in a job that has opened: 13 the place is not 3n bytes or is malformed; 9 a vertex outside the box; 10 a vertex value
 // not readable. If it refuses nothing, the cells hold the values at the facet's vertices.
+#[tactic(auto, using(crate::proofs::PlaceFound::place_steps))]
 pub fn place_in(job: OpenJob<'_>, p: &[u8], cells: &mut [i64; 15]) -> Result<HeldPlace, Refusal>
     requires { Cells job.n cells.old }
     ensures { PlaceFound job.entry.n job.entry.bytes.now p.now result cells.new }

@@ -92,7 +92,8 @@ fn sum_of_last(body: &[u8], n: usize, terms: usize, tables: &[[i64; 5]; 4]) -> i
     sum
 }
 
-// The exact sum of the polynomial at the vertex of the tables.
+// The exact sum of the polynomial at the vertex of the tables. Inlined, as `field::put_value` is, which alone calls it: that has its body in two places.
+#[inline(always)]
 pub fn sum_at(body: &[u8], n: usize, tables: &[[i64; 5]; 4]) -> i64
     requires polynomial { Polynomial n body.now }
     requires tables { Tables n tables.now }

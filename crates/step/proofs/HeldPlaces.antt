@@ -1,6 +1,5 @@
 -- A held place is well-formed and its bytes can name it; a place that a step leads to has coordinates of the same size.
 use Prim.Native.Nat.{ℕ}
-use native.Mathlib.Omega.{arith}
 use mathlib.Core.Path.{◌≡◌, sym, subst, ◌∙◌}
 use mathlib.Core.Bool.{true}
 use mathlib.Core.List.{List}

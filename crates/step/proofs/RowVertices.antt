@@ -1,6 +1,6 @@
 -- The simplex with a corner and a row's order, when the masks of its vertices are read from the table one by one.
 use Prim.Native.Nat.{ℕ}
-use mathlib.Core.Path.{◌≡◌, subst, ◌∙◌}
+use mathlib.Core.Path.{◌≡◌, ◌∙◌}
 use mathlib.Core.List.{List, [], ◌∷◌, map}
 use lib.ListN.{take}
 use Rattle.curves.specs.Grid.{plus, vertices}

@@ -2,7 +2,7 @@
 -- exit leads to, which is held too.
 use Prim.Native.Nat.{ℕ, ◌≤◌, ◌<◌}
 use native.Mathlib.Omega.{arith}
-use mathlib.Core.Path.{◌≡◌, refl, sym, ap, subst, ◌∙◌}
+use mathlib.Core.Path.{◌≡◌, sym, ap, subst, ◌∙◌}
 use mathlib.Core.Bool.{Bool, true, false, cond}
 use mathlib.Core.List.{List}
 use lib.IntN.{ℤ}
@@ -16,7 +16,6 @@ use Rattle.curves.specs.Joined.{Traceable}
 use Rattle.curves.proofs.IncidenceOf.{Valid, incidence_ok, place_incidence}
 use Rattle.curves.proofs.GridStep.{accepted, crossed_columns}
 use Rattle.curves.proofs.GridWalk.{other_only, step_traceable}
-use Rattle.paper.specs.Job.{dimension}
 use Rattle.paper.specs.Values.{field_of}
 use Rattle.paper.specs.Operations.{step_in}
 use Rattle.paper.specs.Answers.{stop_as}
@@ -64,11 +63,18 @@ module _
     unfolding step
     step_is = ap (λ (t : Incidence). step_through n (field_of s) t (vertices t.corner t.order)) simplex_is
 
-    -- what stops the step
-    pub stops : (w : Stop) {cells : List ℤ} → SimplexFound s n corners {T = Unit {0}} (Err w) cells → step_in s (place_as n p) ≡ stop (stop_as w)
+    -- what stops the step: a vertex outside the box, or a value that is not readable
+    pub at_edge : every (field_of s).in_box corners ≡ false → step_in s (place_as n p) ≡ stop (stop_as Edge)
     unfolding step_through stop_as
-    stops Edge v = job_step ∙ step_is ∙ rw v.found
-    stops Limit v = job_step ∙ step_is ∙ rw (v.found.0, v.found.1)
+    at_edge v = job_step ∙ step_is ∙ rw v
+
+    pub at_limit : every (field_of s).in_box corners ≡ true → every (field_of s).readable corners ≡ false → step_in s (place_as n p) ≡ stop (stop_as Limit)
+    unfolding step_through stop_as
+    at_limit v w = job_step ∙ step_is ∙ rw (v, w)
+
+    pub stops : (w : Stop) {cells : List ℤ} → SimplexFound s n corners {T = Unit {0}} (Err w) cells → step_in s (place_as n p) ≡ stop (stop_as w)
+    stops Edge v = at_edge v.found
+    stops Limit v = at_limit v.found.0 v.found.1
 
     -- nothing stops it, and the cells hold the simplex's columns
     module _ (cells : List ℤ)

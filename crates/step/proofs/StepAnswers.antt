@@ -2,7 +2,6 @@
 use Prim.Native.Nat.{ℕ, suc, zero}
 use mathlib.Core.Path.{◌≡◌, refl, sym, ap, ◌∙◌}
 use mathlib.Core.List.{List}
-use lib.IntN.{ℤ}
 use Rattle.std.proofs.Common.{Result, Ok, Err, MatchResult}
 use Rattle.std.specs.Result.{IsOkAnd}
 use Rattle.curves.specs.Grid.{Place}
@@ -11,7 +10,7 @@ use Rattle.curves.specs.Step as Walk
 use Rattle.paper.specs.Job.{dimension, decode_place}
 use Rattle.paper.specs.Operations.{unless, step_in, stepped, point_refusal}
 use Rattle.paper.specs.Refusals.{RefusedOr}
-use Rattle.paper.specs.Answers.{placed_as, padded_place, padded_next, padded_step, stop_as, next_as, stepped_as}
+use Rattle.paper.specs.Answers.{placed_as, padded_place, padded_next, padded_step, next_as, stepped_as}
 use Rattle.paper.specs.declared.HeldPlace.{HeldPlace}
 use Rattle.paper.specs.declared.Stop.{Stop}
 use Rattle.paper.specs.declared.Refusal.{Refusal}

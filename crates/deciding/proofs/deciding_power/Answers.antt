@@ -1,5 +1,5 @@
 -- `deciding::deciding_power` meets its contract: the first power whose coefficient is not 0.
-use Rattle.std.proofs.Common.{rules, ◌≡◌, ◌≢◌, ℤ, ◌∙◌}
+use Rattle.std.proofs.Common.{rules, ◌≡◌, ◌≢◌, ◌∙◌}
 use borrow.Author.Tests.{tests}
 use Rattle.std.proofs.lemmas.Iterator.{first_from_Range}
 use Rattle.exact.specs.Int.{0ℤ}

@@ -1,5 +1,5 @@
 -- `deciding::first_against` meets its contract: the first vertex that is against D.
-use Rattle.std.proofs.Common.{rules, ◌≡◌, sym, ◌∙◌}
+use Rattle.std.proofs.Common.{rules, ◌≡◌, sym}
 use borrow.Author.Tests.{tests}
 use Rattle.std.proofs.lemmas.Iterator.{first_from_Range}
 use Rattle.exact.specs.Sign.{sign}

@@ -1,10 +1,9 @@
 -- `deciding::judge_ground` meets its contract: Open's refusal, the place's, or the ground.
-use Rattle.std.proofs.Common.{Ok, ◌∙◌}
 use Rattle.job.proofs.Opened.{job_axes}
 use Rattle.columns.proofs.FacetColumns.{zero_cells}
 use Rattle.located.proofs.Passed.{passed_on}
 use Rattle.judge.proofs.JudgeAnswers.{open_judges}
-use Rattle.deciding.proofs.Answers.{ground_answered, ground_is}
+use Rattle.deciding.proofs.Answers.{ground_answered}
 use Rattle.deciding.proofs.judge_ground.Goals as goal
 
 pub returns-in_err-job : goal.returns-in_err-job
@@ -14,14 +13,3 @@ returns-in_err-job c =
 
 pub place_in-requires : goal.place_in-requires
 place_in-requires c = zero_cells (job_axes c.in_ok-job.job.opened)
-
-pub returns-in_err-place_in : goal.returns-in_err-place_in
-returns-in_err-place_in c =
-    let h = ground_answered _ _ _ (passed_on _ _ _ c.from_residual-in_err-place_in.ensures.1 c.in_err-place_in.ensures.found) in
-    rw (← c.in_ok-job.ensures.1) (record { named = h.0; agrees = h.1 })
-
-pub returns : goal.returns
-returns c =
-    let f = c.in_ok-place_in.ensures.found in
-    let h = ground_answered _ _ (Ok c.ground.result) (f.0, c.ground.ensures ∙ ground_is c.in_ok-job.job.opened f.1) in
-    rw (← c.in_ok-job.ensures.1) (record { named = h.0; agrees = h.1 })

@@ -1,7 +1,7 @@
 -- `loose::test_form` meets its contract.
 use Rattle.std.proofs.Common.{◌≡◌, ℕ, true, rules, sym, ◌∙◌, ap, subst, refl, length, arith, ◌≤◌, List, [], Bor, get_or}
 use Rattle.paper.specs.Refusals.{RefusedOr}
-use Rattle.assembly.specs.LooseRefusal.{lengths_ok}
+use Rattle.assembly.specs.LooseRefusal.{lengths_ok, form_refusal}
 use Rattle.laying.specs.Laid.{body_at}
 use Rattle.laying.proofs.BodyRead.{body_read}
 use Rattle.loose.proofs.FormSteps.{refuse_lengths, box_long, start_long, forms_decide}
@@ -31,7 +31,11 @@ test_forms-requires c κs =
       ),
     )
 
+-- the bodies' tests answer what is due, and the function answers that: by `grind`, so that it may hand the answer on in any way
 pub returns : goal.returns
 returns c =
     let right : lengths_ok c.args.n (body_at c.args.bodies) ≡ true = sym c.lengths_ok.ensures ∙ c.if-not-lengths_ok.false in
-    subst (λ k. RefusedOr k (λ _. Unit {0}) c.test_forms.result) (forms_decide _ _ right) (c.test_forms.ensures (body_at c.args.bodies) (λ k b l p. read c.args.bodies k b (search rules)))
+    let h : RefusedOr (form_refusal c.args.n (body_at c.args.bodies)) (λ _. Unit {0}) c.test_forms.result =
+    subst (λ k. RefusedOr k (λ _. Unit {0}) c.test_forms.result) (forms_decide _ _ right)
+    (c.test_forms.ensures (body_at c.args.bodies) (λ k b l p. read c.args.bodies k b (search rules))) in
+    grind (arith, h)

@@ -1,10 +1,10 @@
 -- `step::ahead::onward` meets its contract: the simplex found is the one on the place's side, and its exit leads on.
+-- What the call found is looked for among the facts, so that no answer names the arm in which it stands.
 use Rattle.std.proofs.Common.{arith}
-use Rattle.std.proofs.lemmas.Result.{err_from_is_err_and}
 use Rattle.job.proofs.Opened.{job_dimension, job_axes}
 use Rattle.columns.proofs.FacetColumns.{zero_cells}
 use Rattle.step.proofs.HeldPlaces.{held_form, low_moves, corner_moves}
-use Rattle.step.proofs.SimplexStep.{stops, way_inside, leads}
+use Rattle.step.proofs.SimplexStep.{at_edge, at_limit, way_inside, leads}
 use Rattle.step.proofs.ahead.onward.Goals as goal
 
 pub find-here-requires : goal.find-here-requires
@@ -23,20 +23,20 @@ simplex_of-requires c =
 
 pub returns-in_err-simplex_of : goal.returns-in_err-simplex_of
 returns-in_err-simplex_of c =
+    let h = c.requires in
+    let f = c.find-here.ensures in
     let k = c.corner_of-corner.ensures _ _ c.vertex_masks-masks.ensures in
-    let e = stops c.requires c.find-here.ensures k _ c.in_err-simplex_of.ensures in
-    let p = err_from_is_err_and c.from_residual.result c.from_residual.ensures.1 in
-    rw (p.1, p.2) e
+    grind (arith, at_edge h f k, at_limit h f k)
 
 pub exit-exit-requires : goal.exit-exit-requires
-exit-exit-requires c = (c.in_ok-simplex_of.ensures.cells, c.find-here.ensures.vertex)
+exit-exit-requires c = (c.simplex_of.ensures.cells, c.find-here.ensures.vertex)
 
 pub next-requires : goal.next-requires
 next-requires c =
     let h = c.requires in
     let f = c.find-here.ensures in
     let k = c.corner_of-corner.ensures _ _ c.vertex_masks-masks.ensures in
-    ((job_axes h.job).high, (way_inside h f k _ c.in_ok-simplex_of.ensures.found c.exit-exit.ensures, corner_moves h k))
+    ((job_axes h.job).high, (way_inside h f k c.simplex_of.new.cells (first_of (search, grind arith)) c.exit-exit.ensures, corner_moves h k))
 
 pub returns : goal.returns
 returns c =
@@ -44,4 +44,4 @@ returns c =
     let f = c.find-here.ensures in
     let masks = c.vertex_masks-masks.ensures in
     let k = c.corner_of-corner.ensures _ _ masks in
-    leads h f k _ c.in_ok-simplex_of.ensures.found c.exit-exit.ensures (c.next.ensures _ f.table masks)
+    leads h f k c.simplex_of.new.cells (first_of (search, grind arith)) c.exit-exit.ensures (c.next.ensures _ f.table masks)

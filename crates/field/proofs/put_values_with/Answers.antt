@@ -1,9 +1,9 @@
--- `field::put_values` meets its contract.
+-- `field::put_values_with` meets its contract.
 use native.Mathlib.Omega.{arith}
 use Rattle.job.proofs.Opened.{job_axes}
 use Rattle.field.proofs.OpenedJob.{job_near}
 use Rattle.field.proofs.PutValues.{putting_next, putting_fails, putting_all}
-use Rattle.field.proofs.put_values.Goals as goal
+use Rattle.field.proofs.put_values_with.Goals as goal
 
 pub powers-requires : goal.powers-requires
 powers-requires c = job_near c.args.job.opened _ c.requires.inside
