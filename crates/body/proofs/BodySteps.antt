@@ -1,6 +1,6 @@
 -- The refusals of Body, and where its part begins: what each return says, given what the tests before it showed.
-use Rattle.std.proofs.Common.{◌≡◌, sym, ap, ◌∙◌, not, List, [], ℕ, ◌+◌, ◌≤◌, ◌<◌, arith, Result, Ok, Err, Bor}
-use Rattle.std.specs.Result.{result_unwrap_or}
+use Rattle.std.proofs.Common.{◌≡◌, sym, ap, ◌∙◌, not, List, [], ℕ, ◌+◌, ◌≤◌, ◌<◌, arith, Result, Ok, Err, MatchOption, Bor}
+use Rattle.std.specs.Result.{result_err, result_unwrap_or}
 use borrow.Author.Tests.{lt-ltb, le-ltb, eq-eqb, ne_eqb}
 use Rattle.paper.specs.Job.{dimension, entry_offset, open_refusal}
 use Rattle.paper.specs.Operations.{body_refusal, body_part}
@@ -28,6 +28,12 @@ module _ (s : List ℕ) (k : ℕ) where
     pub index_wrong : n < k → refusal_number Index ≡ body_refusal s k
     unfolding body_refusal refusal_number
     index_wrong l = let u : dimension s + 1 ≤ k = omega arith in sym (first_passes _ z ∙ refuse_here 12 0 (ap not (le-ltb _ _ u)))
+
+-- the refusal of the test
+pub refusal_of : (P : Bor (List ℕ) → Type 0) (k : ℕ) (r : Result (Bor (List ℕ)) Refusal) → RefusedOr k P r
+    → MatchOption (result_err r) (k ≡ 0) (λ e. refusal_number e ≡ k)
+refusal_of P k (Ok x) h = h.0
+refusal_of P k (Err e) h = h
 
 -- ---- where Body's part begins
 

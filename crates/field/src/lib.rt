@@ -56,7 +56,7 @@ pub fn put_values_with(
     requires i_bound { (i < 5) × (Cells job.n cells.old) }
     ensures { ValuesPut job.entry.bytes.now job.entry.n (vertex_as job.entry.n v) i cells.old result cells.new }
 {
-    polynomial::powers(job.n, v, tables);
+    polynomial::put_powers(job.n, v, tables);
     for j in 0..job.n - 1 {
         if !put_value(job, j + 1, 3 * i + j, tables, cells) {
             return false;

@@ -4,3 +4,4 @@ pub mod Ground
 pub mod Judged
 pub mod OneForm
 pub mod Cases
+pub mod TakenPowers

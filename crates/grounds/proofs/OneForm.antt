@@ -1,14 +1,21 @@
 -- The code's answer has one form for each ground: no field of it is free, whatever the dimension.
 use Prim.Native.Nat.{ℕ, ◌≤◌, ◌<◌}
 use native.Mathlib.Omega.{arith}
-use mathlib.Core.Path.{◌≡◌, refl, sym, ap, ◌∙◌}
+use mathlib.Core.Path.{◌≡◌, refl, sym, ap, ap₂, subst, ◌∙◌}
+use mathlib.Core.Bool.{◌&&◌}
 use mathlib.Core.Logic.{◌⊎◌, inl, inr}
 use mathlib.Core.List.{List}
 use mathlib.Core.HLevel.{is_prop→PathP}
+use lib.Dec.{eqb}
 use lib.ListN.{length, get_or, take}
+use lib.Pointwise.{pointwise}
+use borrow.Author.Tests.{eqb-true, eq-eqb}
+use Rattle.std.proofs.Common.{IsTrue, ◌↔◌}
 use Rattle.std.proofs.Props.{props}
+use Rattle.std.specs.Cmp.Lexicographic.{bytes_decides}
 use Rattle.std.proofs.lemmas.Bool.{cases_lt}
 use Rattle.std.proofs.lemmas.List.{ext_get_or, length-take-le, get_or-take}
+use Rattle.exact.proofs.AndTests.{and_left, and_right, and-true}
 use Rattle.grounds.specs.declared.Powers.{Powers}
 use Rattle.grounds.specs.declared.NamedGround.{NamedGround}
 use Rattle.grounds.specs.declared.NamedGround.TheVariants.{ZeroDeterminant, Against, Crossed}
@@ -43,7 +50,17 @@ powers_only p q e = λ i. record {
       (λ j. whole_once (same_count p.whole q.whole e j) (same_powers p.whole q.whole e j)) p.whole q.whole i;
 }
 
--- and so are answers that name the same ground
+-- so `==`, which compares the fields, tells them apart exactly where they differ
+pub powers_decide : (p q : Powers) → IsTrue (eqb p.n q.n && pointwise eqb p.powers q.powers) ↔ (p ≡ q)
+powers_decide p q = (
+  λ t. powers_only p q (ap₂ take (eqb-true p.n q.n (and_left (eqb p.n q.n) (pointwise eqb p.powers q.powers) t)) (listed.0 (and_right (eqb p.n q.n) (pointwise eqb p.powers q.powers) t))),
+  λ e. subst (λ (q : Powers). IsTrue (eqb p.n q.n && pointwise eqb p.powers q.powers)) e (and-true (eq-eqb p.n p.n refl) ((bytes_decides p.powers p.powers).1 refl)),
+)
+  where
+    listed : IsTrue (pointwise eqb p.powers q.powers) ↔ (p.powers ≡ q.powers)
+    listed = bytes_decides p.powers q.powers
+
+-- and answers that name the same ground are the same
 pub one_answer : (a b : NamedGround) → named_as a ≡ named_as b → a ≡ b
 unfolding named_as
 one_answer ZeroDeterminant ZeroDeterminant e = refl

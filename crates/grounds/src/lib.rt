@@ -2,6 +2,8 @@
 
 #![tactic(auto)]
 
+mod take;
+
 ghost use Rattle.grounds.specs.Whole.{WholePowers};
 
 // The powers that decide the vertices of a crossed facet, of which the first n count: 0 is a power like others. No heap, so an array with its count;
@@ -21,3 +23,6 @@ pub enum NamedGround {
     Against { vertex: u64, power: u64 },
     Crossed(Powers),
 }
+
+#[cfg(test)]
+mod tests;

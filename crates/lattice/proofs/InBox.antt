@@ -1,6 +1,6 @@
 -- The box, axis by axis: a vertex is inside if each of its coordinates is; and a vertex inside the box of a job that opens has coordinates
 -- within the limit of the box's ends.
-use Rattle.std.proofs.Common.{ℕ, suc, zero, ◌+◌, ◌≤◌, ◌<◌, ◌≡◌, refl, sym, ap, ◌∙◌, arith, subst, Bool, true, false, ◌&&◌, ◌||◌, ap₂, zero-add, List, [], ◌∷◌, ℤ, length, get_or}
+use Rattle.std.proofs.Common.{ℕ, suc, zero, ◌+◌, ◌≤◌, ◌<◌, ◌≡◌, refl, sym, ap, ◌∙◌, arith, subst, Bool, true, false, ◌&&◌, ◌||◌, ap₂, zero-add, List, [], ◌∷◌, ℤ, length, get_or, IsTrue, ◌↔◌}
 use Rattle.std.proofs.lemmas.Bool.Decides.{same_from_decides}
 use Rattle.std.proofs.lemmas.List.{length-take, length-take-le, get_or-take, get_or_past}
 use lib.Dec.{ltb, leb, lit≤}
@@ -85,6 +85,10 @@ module _ (b : List ℕ) (n : ℕ) (v : Vertex) (c : length v.coordinates ≡ 4) 
   to_each : inside_from b 0 (vertex_as n v) ≡ true → Each
   to_each h a l = sym (number b n v a l) ∙ inside_each b 0 (vertex_as n v) h a (omega (arith, count))
 
+  -- whatever decides that each axis is inside
+  pub all_inside : (r : Bool) → IsTrue r ↔ Each → r ≡ inside_from b 0 (vertex_as n v)
+  all_inside r h = same_from_decides r (inside_from b 0 (vertex_as n v)) h (to_each, from_each)
+
   -- the code tests all four axes, and those from n on pass
   abbrev test : ℕ → Bool
   test a = leb n a || axis_inside b a (get_or v.coordinates a 0ℤ)
@@ -99,8 +103,8 @@ module _ (b : List ℕ) (n : ℕ) (v : Vertex) (c : length v.coordinates ≡ 4) 
       go a true e = rw e refl
       go a false e = rw e (h a (leb-false n a e))
 
-  pub all_inside : (r : Bool) → r ≡ all_from test 0 4 → r ≡ inside_from b 0 (vertex_as n v)
-  all_inside r e = e ∙ same_from_decides (all_from test 0 4) (inside_from b 0 (vertex_as n v)) (from_tests, to_tests) (to_each, from_each)
+  pub all_tested : (r : Bool) → r ≡ all_from test 0 4 → r ≡ inside_from b 0 (vertex_as n v)
+  all_tested r e = e ∙ all_inside (all_from test 0 4) (from_tests, to_tests)
 
 -- ---- the box of a job that opens
 

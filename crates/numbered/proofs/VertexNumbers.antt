@@ -146,10 +146,11 @@ module _ {ls : List ℤ} {bs : List ℕ} {i a : ℕ} {cs : List ℤ} {rest : ℕ
   last_axis =
       subst (λ k. NumberedTo ls bs i 4 (set cs 3 (back (back (get_or cs 3 0ℤ) +ℤ to_z w64 k))) (rest % get_or bs 3 0)) whole (axis_more here (lit≤ tt) c)
 
-pub all_stepped : {f : Frame} {i : ℕ} {cs : List ℤ} {rest : ℕ} → NumberedTo f.low.coordinates f.behind i 4 cs rest → (s : List ℕ) (n : ℕ) → FrameIs s n f
+pub all_stepped : {f : Frame} {i a : ℕ} {cs : List ℤ} {rest : ℕ} → a ≡ 4 → NumberedTo f.low.coordinates f.behind i a cs rest → (s : List ℕ) (n : ℕ) → FrameIs s n f
     → take n cs ≡ numbered (low_ends s) (high_ends s) i
 unfolding vertex_as
-all_stepped {f} {i} {cs} {rest} r s n g =
+all_stepped {f} {i} {a} {cs} {rest} e q s n g =
+    let r : NumberedTo f.low.coordinates f.behind i 4 cs rest = subst (λ k. NumberedTo f.low.coordinates f.behind i k cs rest) e q in
     let whole : stepped f.low.coordinates f.behind i ≡ cs =
     r.number
     ∙ ap₂ (λ u v. u ++ stepped v (drop 4 f.behind) rest) (take_all 4 cs (omega (arith, r.count))) (drop_all 4 cs (omega (arith, r.count)))

@@ -18,7 +18,7 @@ use Rattle.exact.specs.Int.{◌⊗◌, power, 0ℤ}
 use Rattle.exact.specs.Size.{Size, Is}
 use Rattle.exact.proofs.Ring.{mul-one}
 use Rattle.exact.proofs.SizeLaws.{size_power}
-use Rattle.exact.proofs.Bits.{holds, holds_call, back, back_is, fits_mul, holds_mul}
+use Rattle.exact.proofs.Bits.{holds, holds_call, back, back_is, back_size, fits_mul, holds_mul}
 use Rattle.curves.specs.Step.{every}
 use Rattle.paper.specs.Limits.{coordinate_limit, degree_limit}
 use Rattle.paper.specs.RunningSum.{monomial_limit, vertex_within}
@@ -26,6 +26,7 @@ use Rattle.paper.proofs.Taken.{take_short}
 use Rattle.exact.proofs.AndTests.{and-true}
 use Rattle.paper.specs.declared.Vertex.{Vertex}
 use Rattle.places.specs.Held.{vertex_as}
+use Rattle.lattice.specs.Box.{Near}
 use Rattle.polynomial.specs.Sums.{PowersOf, base, table_of, Tables, tabled}
 use Rattle.polynomial.proofs.Limits.{coordinate_word, degree_limit_lem, monomial_limit_lem}
 
@@ -121,29 +122,46 @@ pub power_entry : {x : ℤ} {p : List ℤ} {e r : ℕ} → PowersOf x p → r �
 power_entry {e = e} h i l = rw i (holds_call (h.power_at e l) (power_word e l))
 
 -- of a coordinate that is read from its bits
-pub read_back : {x : ℤ} {p : List ℤ} → Size coordinate_limit x → PowersOf (back x) p → PowersOf x p
-read_back {x} {p} s h = subst (λ y. PowersOf y p) (back_is s coordinate_word) h
+pub read_back : {x : ℤ} {p : List ℤ} → Size coordinate_limit x → (Size coordinate_limit (back x) → PowersOf (back x) p) → PowersOf x p
+read_back {x} {p} s h = subst (λ y. PowersOf y p) (back_is s coordinate_word) (h (back_size s coordinate_word))
 
 -- ---- the tables of a vertex
 
--- the tables of the axes under k that count are those of the coordinates vs
-pub record Tabling (vs : List ℤ) (n k : ℕ) (ts : List (List ℤ)) : Type 0 where
+-- the tables of the axes under k of which P holds are those of the coordinates vs
+pub record TablingWhere (P : ℕ → Type 0) (vs : List ℤ) (k : ℕ) (ts : List (List ℤ)) : Type 0 where
   pub count : length ts ≡ 4
-  pub each : (a : ℕ) → a < k → a < n → PowersOf (get_or vs a 0ℤ) (table_of ts a)
+  pub each : (a : ℕ) → a < k → P a → PowersOf (get_or vs a 0ℤ) (table_of ts a)
 
--- an axis that counts
-pub tabling_next : {vs : List ℤ} {n : ℕ} (k : ℕ) {ts : List (List ℤ)} {p : List ℤ} → k < 4 → PowersOf (get_or vs k 0ℤ) p → Tabling vs n k ts
-    → Tabling vs n (k + 1) (set ts k p)
-tabling_next {vs} {n} k {ts} {p} l h g = record {
+-- those of the near coordinates
+abbrev pub Tabling : List ℤ → ℕ → List (List ℤ) → Type 0
+Tabling vs k ts = TablingWhere (λ a. Size coordinate_limit (get_or vs a 0ℤ)) vs k ts
+
+-- those of the axes that count
+abbrev pub CountedTabling : List ℤ → ℕ → ℕ → List (List ℤ) → Type 0
+CountedTabling vs n k ts = TablingWhere (λ a. a < n) vs k ts
+
+-- one table more
+tabling_more : {P : ℕ → Type 0} {vs : List ℤ} (k : ℕ) {ts : List (List ℤ)} {p : List ℤ} → k < 4 → (P k → PowersOf (get_or vs k 0ℤ) p) → TablingWhere P vs k ts
+    → TablingWhere P vs (k + 1) (set ts k p)
+tabling_more {P} {vs} k {ts} {p} l h g = record {
   count = length-set ts k p ∙ g.count;
   each =
       below_more _ k
       (λ a u m. subst (PowersOf (get_or vs a 0ℤ)) (sym (get_or-set_other ts k a p [] (λ e. omega arith))) (g.each a u m))
-      (λ m. subst (PowersOf (get_or vs k 0ℤ)) (sym (get_or-set_same ts k p [] (omega (arith, g.count)))) h);
+      (λ m. subst (PowersOf (get_or vs k 0ℤ)) (sym (get_or-set_same ts k p [] (omega (arith, g.count)))) (h m));
 }
 
+pub tabling_next : {vs : List ℤ} (k : ℕ) {ts : List (List ℤ)} {p : List ℤ} → k < 4 → (Size coordinate_limit (get_or vs k 0ℤ) → PowersOf (get_or vs k 0ℤ) p) → Tabling vs k ts
+    → Tabling vs (k + 1) (set ts k p)
+tabling_next k l h g = tabling_more k l h g
+
+-- an axis that counts
+pub counted_next : {vs : List ℤ} {n : ℕ} (k : ℕ) {ts : List (List ℤ)} {p : List ℤ} → k < 4 → PowersOf (get_or vs k 0ℤ) p → CountedTabling vs n k ts
+    → CountedTabling vs n (k + 1) (set ts k p)
+counted_next k l h g = tabling_more k l (λ m. h) g
+
 -- one that does not
-pub tabling_stays : {vs : List ℤ} {n : ℕ} (k : ℕ) {ts : List (List ℤ)} → n ≤ k → Tabling vs n k ts → Tabling vs n (k + 1) ts
+pub tabling_stays : {vs : List ℤ} {n : ℕ} (k : ℕ) {ts : List (List ℤ)} → n ≤ k → CountedTabling vs n k ts → CountedTabling vs n (k + 1) ts
 tabling_stays k l g = record { count = g.count; each = below_more _ k g.each (λ m. absurd (omega arith)) }
 
 -- ---- all tables
@@ -164,17 +182,27 @@ pub base_at : (ts : List (List ℤ)) (a : ℕ) → get_or (map base ts) a 0ℤ �
 unfolding base
 base_at ts a = get_or-map base ts a []
 
-pub tables_are : {v : Vertex} {n k : ℕ} {ts : List (List ℤ)} → 4 ≤ k → Tabling v.coordinates n k ts → length v.coordinates ≡ 4
+-- where P holds of the axes that count
+module _ {P : ℕ → Type 0} {v : Vertex} {k : ℕ} {ts : List (List ℤ)} (all : 4 ≤ k) (h : TablingWhere P v.coordinates k ts) (e : length v.coordinates ≡ 4)
+    (n : ℕ) (holds : (a : ℕ) → a < n → P a) where
+  of_axis : (a : ℕ) → a < 4 → a < n → PowersOf (get_or v.coordinates a 0ℤ) (table_of ts a)
+  of_axis a l m = h.each a (omega arith) (holds a m)
+
+  tables_where : Tables n ts × (tabled n ts ≡ vertex_as n v)
+  unfolding tabled vertex_as
+  tables_where = (
+    record { count = h.count; each = λ a l m. powers_own (of_axis a l m) },
+    take_same n (map base ts) v.coordinates (length-map ts base ∙ h.count ∙ sym e)
+        (λ a l m. base_at ts a ∙ powers_base (of_axis a (omega (arith, length-map ts base, h.count)) m)),
+  )
+
+pub tables_are : {v : Vertex} {k : ℕ} {ts : List (List ℤ)} → 4 ≤ k → Tabling v.coordinates k ts → length v.coordinates ≡ 4 → (n : ℕ) → Near n v
     → Tables n ts × (tabled n ts ≡ vertex_as n v)
-unfolding tabled vertex_as
-tables_are {v} {n} {k} {ts} all h e = (
-  record { count = h.count; each = λ a l m. powers_own (of_axis a l m) },
-  take_same n (map base ts) v.coordinates (length-map ts base ∙ h.count ∙ sym e)
-      (λ a l m. base_at ts a ∙ powers_base (of_axis a (omega (arith, length-map ts base, h.count)) m)),
-)
-  where
-    of_axis : (a : ℕ) → a < 4 → a < n → PowersOf (get_or v.coordinates a 0ℤ) (table_of ts a)
-    of_axis a l m = h.each a (omega arith) m
+tables_are all h e n near = tables_where all h e n near.each
+
+pub counted_are : {v : Vertex} {n k : ℕ} {ts : List (List ℤ)} → 4 ≤ k → CountedTabling v.coordinates n k ts → length v.coordinates ≡ 4
+    → Tables n ts × (tabled n ts ≡ vertex_as n v)
+counted_are {n = n} all h e = tables_where all h e n (λ a m. m)
 
 -- ---- the vertex of the tables is one that a box may have
 

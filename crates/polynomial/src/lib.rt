@@ -2,7 +2,7 @@
 
 #![tactic(auto)]
 
-ghost use Rattle.std.specs.Prelude.{◌≡◌, ◌^◌, ◌≤◌, ◌<◌};
+ghost use Rattle.std.specs.Prelude.{◌≡◌, ℕ, ◌^◌, ◌≤◌, ◌<◌};
 ghost use Rattle.exact.specs.Size.{Size, Is};
 ghost use Rattle.paper.specs.Limits.{coordinate_limit};
 ghost use Rattle.paper.specs.Job.{term_count, exponent_of};
@@ -30,7 +30,7 @@ fn powers_of(x: i64) -> [i64; 5]
 
 // The powers of a vertex's coordinates, put into a table for each axis that counts; the coordinate of another may be any number. With a bound that is a
 // constant the loop is unrolled, and the tables are lent: those of a result would be made in numbers first and then stored, at each turn of a trace.
-pub fn powers(n: usize, v: Vertex, tables: &mut [[i64; 5]; 4])
+pub fn put_powers(n: usize, v: Vertex, tables: &mut [[i64; 5]; 4])
     requires { Near n v }
     ensures { (Tables n tables.new) × (tabled n tables.new ≡ vertex_as n v) }
 {
@@ -39,6 +39,27 @@ pub fn powers(n: usize, v: Vertex, tables: &mut [[i64; 5]; 4])
             tables[axis] = powers_of(v.coordinates[axis]);
         }
     }
+}
+
+// The number within the limit of a coordinate that is nearest to x.
+fn nearest(x: i64) -> i64
+    ensures { (Size coordinate_limit result) × (Size coordinate_limit x → result ≡ x) }
+{
+    x.clamp(-256, 256)
+}
+
+// The tables as a result, for any vertex and each n whose axes are near. The powers of a coordinate past the limit may leave 64 bits, so its table is that
+// of the limit on its side.
+pub fn powers(v: Vertex) -> [[i64; 5]; 4]
+    ensures { (n : ℕ) → Near n v → (Tables n result) × (tabled n result ≡ vertex_as n v) }
+{
+    let mut near = v;
+    for axis in 0..4 {
+        near.coordinates[axis] = nearest(v.coordinates[axis]);
+    }
+    let mut tables = [[0i64; 5]; 4];
+    put_powers(4, near, &mut tables);
+    tables
 }
 
 // The power of one coordinate in term i; 1 from axis n on.
@@ -109,6 +130,9 @@ pub fn running_sum(body: &[u8], n: usize, v: Vertex, terms: usize) -> i64
     ensures { Is (partial_sum_limit n) (running_sum body.now (vertex_as n v) terms) result }
 {
     let mut tables = [[0i64; 5]; 4];
-    powers(n, v, &mut tables);
+    put_powers(n, v, &mut tables);
     sum_of_last(body, n, terms, &tables)
 }
+
+#[cfg(test)]
+mod tests;

@@ -23,6 +23,8 @@ use Rattle.bits.specs.Axes.{Axes}
 use Rattle.bits.proofs.EachDimension.{each_axes}
 use Rattle.paper.proofs.Tests.{dimension_range}
 use Rattle.paper.specs.declared.HeldPlace.{HeldPlace}
+use lib.Pointwise.{pointwise}
+use Rattle.places.proofs.SameNumbers.{masks_compared}
 use Rattle.places.specs.Held.{masks_as, facet_as, place_as}
 use Rattle.table.specs.Table.{order_at, InTable}
 use Rattle.sides.specs.Facets.{masks_at, side_at, facet_masks}
@@ -69,13 +71,17 @@ module _ {n row out : ℕ} (p : HeldPlace) (h : InTable n row) (l : out ≤ n) {
   read : take (n - 1) masks ≡ masks_at n row out
   read = ap (take (n - 1)) e ∙ sym (masks_are n row out h l)
 
+  -- compared as lists
+  pub masks_decide : pointwise eqb (take (n - 1) masks) (masks_as n p) ≡ same_masks (masks_at n row out) (masks_as n p)
+  masks_decide = masks_compared (take (n - 1) masks) (masks_as n p) ∙ ap (λ ms. same_masks ms (masks_as n p)) read
+
   -- the code tests three masks, and those from n - 1 on pass
   abbrev test : ℕ → Bool
   test k = leb (n - 1) k || eqb (get_or masks k 0) (get_or p.masks k 0)
 
-  pub masks_decide : length masks ≡ 3 → length p.masks ≡ 3 → all_from test 0 3 ≡ same_masks (masks_at n row out) (masks_as n p)
+  pub masks_tested : length masks ≡ 3 → length p.masks ≡ 3 → all_from test 0 3 ≡ same_masks (masks_at n row out) (masks_as n p)
   unfolding masks_as
-  masks_decide c d = three_tested n h.axes masks p.masks c d ∙ ap (λ ms. same_masks ms (masks_as n p)) read
+  masks_tested c d = three_tested n h.axes masks p.masks c d ∙ ap (λ ms. same_masks ms (masks_as n p)) read
 
 module _
     (n row out : ℕ) (p : HeldPlace) {same : Bool} (is_same : same ≡ same_masks (masks_at n row out) (masks_as n p)) where

@@ -1,5 +1,5 @@
 -- `numbered::vertex_at` meets its contract: one axis more at each turn, and then the last.
-use Rattle.std.proofs.Common.{arith}
+use Rattle.std.proofs.Common.{refl, arith}
 use Rattle.places.specs.Held.{vertex_as}
 use Rattle.numbered.proofs.VertexNumbers.{none_stepped, coordinate_fits, axis_more, last_few, last_fits, last_axis, all_stepped}
 use Rattle.numbered.proofs.vertex_at.Goals as goal
@@ -23,4 +23,4 @@ pub returns : goal.returns
 unfolding vertex_as
 returns c =
     let all = last_axis (omega arith) c.loop-a.invariant c.requires.0.count in
-    record { vertex_size = record { count = all.count; each = all.near }; by_index = all_stepped all }
+    record { vertex_size = record { count = all.count; each = all.near }; by_index = all_stepped refl all }

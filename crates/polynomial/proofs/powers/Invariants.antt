@@ -1,6 +1,6 @@
--- The loop's invariant: the tables under axis that count are those of the coordinates.
-use Rattle.polynomial.proofs.PowerLaws.{Tabling}
+-- The loop's invariant: of the axes under axis the coordinates are near, and are the vertex's own where these are.
+use Rattle.polynomial.proofs.NearTables.{Nearing}
 use Rattle.polynomial.proofs.powers.Given as goal
 
 abbrev pub invariant-loop-axis : goal.invariant-loop-axis
-invariant-loop-axis l = Tabling l.v.coordinates l.n l.axis l.tables
+invariant-loop-axis l = Nearing l.v.coordinates l.axis l.near.coordinates

@@ -3,4 +3,4 @@ use Rattle.polynomial.proofs.PartialSums.{running_at}
 use Rattle.polynomial.proofs.running_sum.Goals as goal
 
 pub returns : goal.returns
-returns c = running_at _ _ _ c.powers.ensures.1 c.sum_of_last.ensures
+returns c = running_at _ _ _ c.put_powers.ensures.1 c.sum_of_last.ensures
